@@ -30,24 +30,33 @@ module _ (count : ℕ) where
         (cond (leb (past least before) n) (Ok (n, rest)) (Err (fault NotRising (at count bs))))
         (Err (fault over (at count bs))))
 
-  -- a task, told how many predecessors the segments before its own have, and the tasks of its own before it
-  abbrev pub next-task : ℕ → List Task → List ℕ → Read Task
-  next-task spent before bs =
+  -- the task of number `own` in its segment, where the plan may have `left` predecessors more
+  abbrev pub numbered-task : ℕ → ℕ → List ℕ → Read Task
+  numbered-task own left bs =
       then (ranged 0 16 bs) (λ size after-size.
       then (string count size after-size) (λ name after-name.
       then (ranged 0 1000000 after-name) (λ worst after-worst.
-      then (ranged 0 (1024 - (spent + predecessors-of before)) after-worst) (λ many after-many.
-      then (several (next-rising NotRising 0 (length before)) many [] after-many) (λ predecessors rest.
+      then (ranged 0 left after-worst) (λ many after-many.
+      then (several (next-rising NotRising 0 own) many [] after-many) (λ predecessors rest.
       Ok (record { name = name; worst = worst; predecessors = predecessors }, rest))))))
 
-  -- a segment of a plan of `segments`, told those before it
-  abbrev pub next-segment : ℕ → List Segment → List ℕ → Read Segment
-  next-segment segments before bs =
-      then (ranged 1 (256 - tasks-in before) bs) (λ many after-many.
-      then (several (next-task (predecessors-in before)) many [] after-many) (λ tasks after-tasks.
+  -- a task, told those of its segment before it; `left` predecessors were left to the plan at the first
+  abbrev pub next-task : ℕ → List Task → List ℕ → Read Task
+  next-task left before = numbered-task (length before) (left - predecessors-of before)
+
+  -- the segment of number `own` of `segments`, where the plan may have so many tasks and predecessors more
+  abbrev pub numbered-segment : ℕ → ℕ → ℕ → ℕ → List ℕ → Read Segment
+  numbered-segment segments own tasks-left left bs =
+      then (ranged 1 tasks-left bs) (λ many after-many.
+      then (several (next-task left) many [] after-many) (λ tasks after-tasks.
       then (ranged 0 31 after-tasks) (λ ways after-ways.
-      then (several (next-rising OutOfRange (length before + 1) segments) ways [] after-ways) (λ exits rest.
+      then (several (next-rising OutOfRange (own + 1) segments) ways [] after-ways) (λ exits rest.
       Ok (record { tasks = tasks; exits = exits }, rest)))))
+
+  -- a segment, told those before it: a plan has at most 256 tasks and 1,024 predecessors in all
+  abbrev pub next-segment : ℕ → List Segment → List ℕ → Read Segment
+  next-segment segments before =
+      numbered-segment segments (length before) (256 - tasks-in before) (1024 - predecessors-in before)
 
   -- the numbers of a graph
   abbrev pub numbers : List ℕ → Read Graph

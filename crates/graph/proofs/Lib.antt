@@ -1,0 +1,4 @@
+pub mod Entries
+pub mod Several
+pub mod Totals
+pub mod Whole
