@@ -2,7 +2,7 @@ use Prim.Native.Nat.{_-_, _≤_}
 use mathlib.Core.Path.{_≡_}
 use lib.ListN.{length}
 use Rattle.model.specs.Numbers.{number}
-use Rattle.number.proofs.Groups.{onward}
+use Rattle.number.proofs.Onward.{onward}
 use Rattle.number.proofs.read.read_number.Given as given
 
 abbrev pub Inv-loop-rest : given.InvT-loop-rest
