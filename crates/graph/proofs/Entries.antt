@@ -19,7 +19,7 @@ use Rattle.model.specs.Graph.{Graph, entered}
 use Rattle.model.specs.Lists.{has}
 use Rattle.model.specs.Reading.{entries}
 use Rattle.graph.specs.Meaning.{segment-of}
-use Rattle.graph.specs.declared.structure.Segment.{Segment}
+use Rattle.graph.specs.declared.parts.Segment.{Segment}
 
 -- what `contains` answers
 pub contains-has : (xs : List ℕ) (x : ℕ) (r : Bool) → Some-of (λ y t. Decides t (y ≡ x)) xs r → r ≡ has xs x

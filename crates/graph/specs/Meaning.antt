@@ -2,8 +2,8 @@
 use Prim.Native.Nat.{ℕ}
 use mathlib.Core.List.{List, map}
 use Rattle.std.specs.Of.Vec.{vec-items}
-use Rattle.graph.specs.declared.structure.Segment.{Segment}
-use Rattle.graph.specs.declared.structure.Task.{Task}
+use Rattle.graph.specs.declared.parts.Segment.{Segment}
+use Rattle.graph.specs.declared.parts.Task.{Task}
 use Rattle.model.specs.Graph as model
 
 abbrev pub task-of : Task → model.Task

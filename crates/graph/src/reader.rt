@@ -2,7 +2,7 @@ ghost use mathlib.Core.Path.{_≡_};
 ghost use mathlib.Core.List.{[], map};
 ghost use Prim.Native.Nat.{_-_, _<_};
 ghost use lib.ListN.{length};
-ghost use Rattle.std.specs.Of.Vec.{vec-items};
+ghost use Rattle.std.specs.Of.Vec.{vec-items, vec-len};
 ghost use Rattle.model.specs.Graph.{predecessors-of, entered};
 ghost use Rattle.model.specs.Graph.{Graph as GraphModel};
 ghost use Rattle.model.specs.Writing.{graph-bytes};
@@ -17,8 +17,8 @@ ghost use Rattle.graph.specs.Answers.{Answers, Reads, passing};
 ghost use Rattle.graph.specs.Meaning.{task-of, segment-of};
 ghost use Rattle.graph.specs.Whole.{graph-of};
 use crate::structure::Graph;
-use crate::structure::Segment;
-use crate::structure::Task;
+use crate::parts::Segment;
+use crate::parts::Task;
 use fault::Error;
 use fault::ErrorFromAlloc;
 use fault::ErrorFromFault;
@@ -67,7 +67,8 @@ fn rising<'a>(
     top: u32,
     over: Kind,
 ) -> Result<(Vec<u32>, &'a [u8]), Error>
-    ensures { λ r. ⌜ Reads vec-items r (several (next-rising count over least top) many [] (now (bytes .entry))) ⌝ }
+    ensures reads { λ r. ⌜ Reads vec-items r (several (next-rising count over least top) many [] (now (bytes .entry))) ⌝ }
+    ensures len { λ r. ⌜ made r (λ x. vec-len (x .0) ≡ many) ⌝ }
 {
     let mut numbers = Vec::new(heap);
     let mut rest = bytes;
@@ -83,7 +84,8 @@ fn rising<'a>(
 
 // A name of `size` bytes.
 fn name<'a>(heap: Global, count: usize, bytes: &'a [u8], size: u32) -> Result<(Vec<u8>, &'a [u8]), Error>
-    ensures { λ r. ⌜ Reads vec-items r (string count size (now (bytes .entry))) ⌝ }
+    ensures reads { λ r. ⌜ Reads vec-items r (string count size (now (bytes .entry))) ⌝ }
+    ensures len { λ r. ⌜ made r (λ x. vec-len (x .0) ≡ size) ⌝ }
 {
     let size = size as usize;
     if size > bytes.len() {
@@ -108,7 +110,8 @@ fn task<'a>(heap: Global, count: usize, bytes: &'a [u8], own: u32, left: usize) 
 
 // `many` tasks of a segment, where the plan may have `left` predecessors more.
 fn tasks<'a>(heap: Global, count: usize, bytes: &'a [u8], many: u32, left: usize) -> Result<(Vec<Task>, &'a [u8]), Error>
-    ensures { λ r. ⌜ Reads (λ v. map task-of (vec-items v)) r (several (next-task count left) many [] (now (bytes .entry))) ⌝ }
+    ensures reads { λ r. ⌜ Reads (λ v. map task-of (vec-items v)) r (several (next-task count left) many [] (now (bytes .entry))) ⌝ }
+    ensures len { λ r. ⌜ made r (λ x. vec-len (x .0) ≡ many) ⌝ }
 {
     let mut tasks = Vec::new(heap);
     let mut rest = bytes;
@@ -155,7 +158,8 @@ fn segment<'a>(
 
 // The segments of a plan of `many`.
 fn segments<'a>(heap: Global, count: usize, bytes: &'a [u8], many: u32) -> Result<(Vec<Segment>, &'a [u8]), Error>
-    ensures { λ r. ⌜ Reads (λ v. map segment-of (vec-items v)) r (several (next-segment count many) many [] (now (bytes .entry))) ⌝ }
+    ensures reads { λ r. ⌜ Reads (λ v. map segment-of (vec-items v)) r (several (next-segment count many) many [] (now (bytes .entry))) ⌝ }
+    ensures len { λ r. ⌜ made r (λ x. vec-len (x .0) ≡ many) ⌝ }
 {
     let mut segments = Vec::new(heap);
     let mut rest = bytes;

@@ -14,7 +14,7 @@ pub returns-in-Break-n : need.returns-in-Break-n
 returns-in-Break-n c =
     let p = err-from-errBy (c .from-residual .result) (c .from-residual .ensures .1) in
     let one = ap (λ w. next-rising (c .args .count) (c .args .over) w (c .args .top) [] (c .loop-i .rest .now)) (sym (c .loop-i .inv .1)) ∙ sym (c .in-Break-n .ensures tt) in
-    rw (p .1, p .2) (several-fault (next-rising (c .args .count) (c .args .over) (c .args .least) (c .args .top)) _ (c .args .many) (c .loop-i .-i) (vec-items (c .loop-i .numbers)) (c .loop-i .rest .now) (c .loop-i .inv .0) _ (c .loop-i-test .taken) one)
+    rw (p .1, p .2) (record { reads = several-fault (next-rising (c .args .count) (c .args .over) (c .args .least) (c .args .top)) _ (c .args .many) (c .loop-i .-i) (vec-items (c .loop-i .numbers)) (c .loop-i .rest .now) (c .loop-i .inv .0) _ (c .loop-i-test .taken) one; len = tt })
 
 pub loop-i-again : need.loop-i-again
 loop-i-again c =
@@ -22,4 +22,5 @@ loop-i-again c =
     let pushed = c .in-Continue-push .ensures tt .items in
     ( several-more (next-rising (c .args .count) (c .args .over) (c .args .least) (c .args .top)) _ (c .args .many) (c .loop-i .-i) (vec-items (c .loop-i .numbers)) (c .loop-i .rest .now) (c .loop-i .inv .0) _ _ (c .loop-i-test .taken) one
       ∙ ap (λ done. several (next-rising (c .args .count) (c .args .over) (c .args .least) (c .args .top)) (c .args .many - (c .loop-i .-i + 1)) done (c .in-Continue-n .more .now)) (sym pushed)
-    , sym (ap (past (c .args .least)) pushed ∙ past-push (c .args .least) (c .in-Continue-n .n) (vec-items (c .loop-i .numbers))))
+    , sym (ap (past (c .args .least)) pushed ∙ past-push (c .args .least) (c .in-Continue-n .n) (vec-items (c .loop-i .numbers)))
+    , search needs)

@@ -1,7 +1,7 @@
 use Prim.Native.Nat.{_-_}
 use mathlib.Core.List.{[]}
 use mathlib.Core.Path.{_≡_}
-use Rattle.std.specs.Of.Vec.{vec-items}
+use Rattle.std.specs.Of.Vec.{vec-items, vec-len}
 use Rattle.model.specs.Bytes.{several}
 use Rattle.model.specs.Lists.{past}
 use Rattle.model.specs.Reading.{next-rising}
@@ -12,3 +12,4 @@ abbrev pub Inv-loop-i : given.InvT-loop-i
 Inv-loop-i l =
     (several (next-rising (l .count) (l .over) (l .least) (l .top)) (l .many) [] (l .bytes) ≡ several (next-rising (l .count) (l .over) (l .least) (l .top)) (l .many - l .-i) (vec-items (l .numbers)) (l .rest))
     × (l .lowest ≡ past (l .least) (vec-items (l .numbers)))
+    × (vec-len (l .numbers) ≡ l .-i)

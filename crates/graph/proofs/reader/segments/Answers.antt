@@ -27,9 +27,9 @@ returns-in-Break-segment c =
     let p = err-from-errBy (c .from-residual .result) (c .from-residual .ensures .1) in
     let own : length done ≡ c .loop-own .own = length-map (vec-items (c .loop-own .segments)) segment-of ∙ (sym (c .loop-own .segments .ok .0) ∙ c .loop-own .inv .3) in
     let same = counted (c .args .count) (c .args .many) _ _ _ done (c .loop-own .rest .now) own (c .loop-own .inv .1) (c .loop-own .inv .2) in
-    rw (p .1, p .2) (failed (c .in-Break-segment .field-0 .0) _ _
+    rw (p .1, p .2) (record { reads = failed (c .in-Break-segment .field-0 .0) _ _
       (λ f e. several-fault (next-segment (c .args .count) (c .args .many)) _ (c .args .many) (c .loop-own .own) done (c .loop-own .rest .now) (c .loop-own .inv .0) f (c .loop-own-test .taken) (same ∙ e))
-      (c .in-Break-segment .ensures tt))
+      (c .in-Break-segment .ensures tt); len = tt })
 
 pub loop-own-again : need.loop-own-again
 loop-own-again c =

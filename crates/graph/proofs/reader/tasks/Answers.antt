@@ -21,9 +21,9 @@ returns-in-Break-task c =
     let p = err-from-errBy (c .from-residual .result) (c .from-residual .ensures .1) in
     let own : length done ≡ c .loop-own .own = length-map (vec-items (c .loop-own .tasks)) task-of ∙ (sym (c .loop-own .tasks .ok .0) ∙ c .loop-own .inv .2) in
     let same = ap (λ n. numbered-task (c .args .count) n (c .args .left - predecessors-of done) (c .loop-own .rest .now)) own ∙ ap (λ w. numbered-task (c .args .count) (c .loop-own .own) w (c .loop-own .rest .now)) (sym (c .loop-own .inv .1)) in
-    rw (p .1, p .2) (failed (c .in-Break-task .field-0 .0) _ _
+    rw (p .1, p .2) (record { reads = failed (c .in-Break-task .field-0 .0) _ _
       (λ f e. several-fault (next-task (c .args .count) (c .args .left)) _ (c .args .many) (c .loop-own .own) done (c .loop-own .rest .now) (c .loop-own .inv .0) f (c .loop-own-test .taken) (same ∙ e))
-      (c .in-Break-task .ensures tt))
+      (c .in-Break-task .ensures tt); len = tt })
 
 pub loop-own-again : need.loop-own-again
 loop-own-again c =

@@ -5,7 +5,7 @@ use mathlib.Core.List.{map}
 use mathlib.Core.Path.{_≡_, refl, ap, sym, _∙_}
 use lib.ListN.{length}
 use Rattle.std.proofs.shelf.Results.{err-from-errBy}
-use Rattle.std.specs.Of.Vec.{vec-items}
+use Rattle.std.specs.Of.Vec.{vec-items, vec-len}
 use Rattle.std.specs.declared.result.Result.the-variants.{Ok, Err}
 use Rattle.model.proofs.GraphLaws.{graphs-read-are-formed, graphs-take-their-bytes}
 use Rattle.model.specs.Graph.{Graph}
@@ -25,7 +25,7 @@ read : (c : need.After-entries) → reading (c .args .bytes .now) ≡ passing (c
 read c =
     read-whole (c .args .bytes .now) (c .in-Continue-cores .rest .now) (c .in-Continue-deadline .rest .now) (c .in-Continue-many .rest .now) (c .in-Continue-segments .rest .now)
     (c .in-Continue-cores .cores) (c .in-Continue-deadline .deadline) (c .in-Continue-many .many) (map segment-of (vec-items (c .in-Continue-segments .segments)))
-    (c .in-Continue-cores .ensures tt) (c .in-Continue-deadline .ensures tt) (c .in-Continue-many .ensures tt) (c .in-Continue-segments .ensures tt)
+    (c .in-Continue-cores .ensures tt) (c .in-Continue-deadline .ensures tt) (c .in-Continue-many .ensures tt) (c .in-Continue-segments .ensures tt .reads)
     (c .entries .result) (c .in-Continue-nothing-left .ensures tt) (c .entries .ensures (whole c) (ap (map segment-of) (sym (c .as-slice .ensures .value))))
 
 pub returns-in-Break-entries : need.returns-in-Break-entries
@@ -42,7 +42,8 @@ pub ghost-result : need.ghost-result
 ghost-result c =
     let ok = accepted c in
     let small : length (c .args .bytes .now) < 2 ^ 64 = search needs in
-    (graphs-read-are-formed _ _ ok, (omega (arith, ap length (graphs-take-their-bytes _ _ ok), small), tt))
+    let counted : vec-len (c .in-Continue-segments .segments) < 2 ^ 32 = search needs in
+    (graphs-read-are-formed _ _ ok, (counted, (omega (arith, ap length (graphs-take-their-bytes _ _ ok), small), tt)))
 
 pub returns : need.returns
 returns c = let ok = accepted (need.at·returns c .In-Continue-entries) in record { answer = ok; formed = graphs-read-are-formed _ _ ok; bytes = graphs-take-their-bytes _ _ ok }
