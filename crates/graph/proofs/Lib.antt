@@ -1,4 +1,5 @@
 pub mod Entries
+pub mod Laying
 pub mod Several
 pub mod Totals
 pub mod Whole

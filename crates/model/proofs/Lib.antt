@@ -1,5 +1,10 @@
+pub mod Along
+pub mod BackLaws
+pub mod CardLaws
 pub mod Fits
 pub mod GraphLaws
 pub mod ListReading
 pub mod NumberLaws
+pub mod PlaceLaws
+pub mod Rising
 pub mod Taken

@@ -1,8 +1,8 @@
 -- A reader that takes the bytes of a thing: it reads them whatever follows, and where they are cut short it finds their end.
-use mathlib.Core.Path.{_≡_, refl, sym, ap, subst, _∙_}
+use mathlib.Core.Path.{_≡_, refl, ap, _∙_}
 use mathlib.Core.List.{List, [], _∷_, _++_, append-nil, append-assoc}
 use mathlib.Core.Logic.{⊎-elim}
-use Prim.Native.Nat.{ℕ, zero, suc, _+_, _-_, _≤_, _<_}
+use Prim.Native.Nat.{ℕ, _+_, _-_, _≤_, _<_}
 use native.Mathlib.Omega.{arith}
 use lib.ListN.{length, take, length-append}
 use lib.Seq.{take-append-le, take-append-add}
@@ -12,7 +12,7 @@ use Rattle.std.proofs.shelf.Tests.{cases-lt}
 use Rattle.fault.specs.declared.kind.Kind.the-variants.{BytesEnd}
 use Rattle.fault.specs.Card.{fault}
 use Rattle.model.specs.Bytes.{Read, then, several}
-use Rattle.model.proofs.ListReading.{Along}
+use Rattle.model.proofs.Along.{Along}
 
 module _ {X : Type 0} where
   pub record Takes (p : ℕ → List ℕ → Read X) (x : X) (bytes : List ℕ) : Type 0 where
@@ -30,13 +30,13 @@ module _ {X Y : Type 0} (p : ℕ → List ℕ → Read X) (q : X → ℕ → Lis
       record {
         reads = λ count more. rw (append-assoc first rest more, one .reads count (rest ++ more)) (other .reads count more);
         ends = λ count k h.
-          ⊎-elim
-          (λ (l : k < length first). rw (take-append-le k first rest (omega arith), one .ends count k l))
-          (λ (l : length first ≤ k).
-          let e : k ≡ length first + (k - length first) = omega arith in
-          let c : take k (first ++ rest) ≡ first ++ take (k - length first) rest = ap (λ n. take n (first ++ rest)) e ∙ take-append-add first rest (k - length first) in
-          rw (c, one .reads count (take (k - length first) rest)) (other .ends count (k - length first) (omega (arith, length-append first rest))))
-          (cases-lt k (length first));
+            ⊎-elim
+            (λ (l : k < length first). rw (take-append-le k first rest (omega arith), one .ends count k l))
+            (λ (l : length first ≤ k).
+            let e : k ≡ length first + (k - length first) = omega arith in
+            let c : take k (first ++ rest) ≡ first ++ take (k - length first) rest = ap (λ n. take n (first ++ rest)) e ∙ take-append-add first rest (k - length first) in
+            rw (c, one .reads count (take (k - length first) rest)) (other .ends count (k - length first) (omega (arith, length-append first rest))))
+            (cases-lt k (length first));
       }
 
 -- things of which each fits those before it
@@ -46,5 +46,5 @@ module _ {X : Type 0} (item : ℕ → List X → List ℕ → Read X) (bytes : X
   several-take own done [] a = rw append-nil (takes-none done)
   several-take own done (x ∷ xs) a =
       rw (← append-assoc done (x ∷ []) xs)
-        (then-takes (λ count. item count done) (λ y count. several (item count) (length xs) (done ++ (y ∷ []))) x ((done ++ (x ∷ [])) ++ xs) (bytes x) (joined bytes xs)
-          (own done x (a .0)) (several-take own (done ++ (x ∷ [])) xs (a .1)))
+      (then-takes (λ count. item count done) (λ y count. several (item count) (length xs) (done ++ (y ∷ []))) x ((done ++ (x ∷ [])) ++ xs) (bytes x) (joined bytes xs)
+      (own done x (a .0)) (several-take own (done ++ (x ∷ [])) xs (a .1)))

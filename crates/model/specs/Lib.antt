@@ -4,5 +4,6 @@ pub mod Graph
 pub mod Laws
 pub mod Lists
 pub mod Numbers
+pub mod Places
 pub mod Reading
 pub mod Writing
