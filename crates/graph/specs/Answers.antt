@@ -24,6 +24,12 @@ Answers meaning (Err e) m = Fails e m
 abbrev pub Reads : {X Y : Type 0} → (X → Y) → Result (X × RefT (List ℕ)) Error → Read Y → Type 0
 Reads meaning r m = Answers (λ x. (meaning (x .0), x .1 .now)) r m
 
+-- what holds of the fault, where there is one
+abbrev pub Refuses : {X : Type 0} → Result X Error → (Fault → Type 0) → Type 0
+Refuses (Ok x) P = Unit {0}
+Refuses (Err (Refused f)) P = P f
+Refuses (Err OutOfMemory) P = Unit {0}
+
 -- goes on with y where a test has passed
 abbrev pub passing : {X Y : Type 0} → Result X Fault → Y → Result Y Fault
 passing (Ok x) y = Ok y

@@ -6,14 +6,13 @@ ghost use Rattle.std.specs.Of.Vec.{vec-items, vec-len};
 ghost use Rattle.model.specs.Graph.{predecessors-of, entered};
 ghost use Rattle.model.specs.Graph.{Graph as GraphModel};
 ghost use Rattle.model.specs.Writing.{graph-bytes};
-ghost use Rattle.model.specs.Formed.{well-formed};
+ghost use Rattle.model.specs.Places.{Formed};
 ghost use Rattle.fault.specs.Card.{On-card};
-ghost use mathlib.Core.Bool.{true};
 ghost use Rattle.std.specs.Vec.{made};
 ghost use Rattle.model.specs.Bytes.{string, several};
 ghost use Rattle.model.specs.Reading.{ranged, next-rising, numbered-task, next-task, numbered-segment, next-segment, nothing-left, entries, reading};
 ghost use Rattle.number.specs.Told.{told};
-ghost use Rattle.graph.specs.Answers.{Answers, Reads, passing};
+ghost use Rattle.graph.specs.Answers.{Answers, Reads, Refuses, passing};
 ghost use Rattle.graph.specs.Meaning.{task-of, segment-of};
 ghost use Rattle.graph.specs.Whole.{graph-of};
 use crate::structure::Graph;
@@ -210,20 +209,28 @@ fn entries(segments: &[Segment], many: u32) -> Result<(), Fault>
     Ok(())
 }
 
+// The graph of a whole run of bytes.
+fn whole(heap: Global, bytes: &[u8]) -> Result<Graph, Error>
+    ensures { λ r. ⌜ Answers graph-of r (reading (now (bytes .entry))) ⌝ }
+{
+    let count = bytes.len();
+    let (cores, rest) = ranged(count, bytes, 1, 8)?;
+    let (deadline, rest) = ranged(count, rest, 0, 1_000_000_000)?;
+    let (many, rest) = ranged(count, rest, 1, 32)?;
+    let (segments, rest) = segments(heap, count, rest, many)?;
+    nothing_left(count, rest)?;
+    entries(segments.as_slice(), many)?;
+    Ok(Graph { cores, deadline, segments })
+}
+
 impl Graph {
     // The graph that the bytes describe, or the first fault in byte order.
     pub fn read(heap: Global, bytes: &[u8]) -> Result<Graph, Error>
         ensures answer { λ r. ⌜ Answers graph-of r (reading (now (bytes .entry))) ⌝ }
-        ensures formed { λ r. ⌜ made r (λ g. well-formed (graph-of g) ≡ true) ⌝ }
-        ensures bytes { λ r. ⌜ made r (λ g. now (bytes .entry) ≡ graph-bytes (graph-of g)) ⌝ }
+        ensures formed { λ r. ⌜ made r (λ g. Formed (graph-of g)) ⌝ }
+        ensures takes { λ r. ⌜ made r (λ g. now (bytes .entry) ≡ graph-bytes (graph-of g)) ⌝ }
+        ensures carries { λ r. ⌜ Refuses r On-card ⌝ }
     {
-        let count = bytes.len();
-        let (cores, rest) = ranged(count, bytes, 1, 8)?;
-        let (deadline, rest) = ranged(count, rest, 0, 1_000_000_000)?;
-        let (many, rest) = ranged(count, rest, 1, 32)?;
-        let (segments, rest) = segments(heap, count, rest, many)?;
-        nothing_left(count, rest)?;
-        entries(segments.as_slice(), many)?;
-        Ok(Graph { cores, deadline, segments })
+        whole(heap, bytes)
     }
 }
