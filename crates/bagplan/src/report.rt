@@ -5,6 +5,7 @@ use fault::Error;
 use fault::FaultDisplay;
 use graph::Graph;
 use graph::Task;
+use reader::read_graph;
 use std::alloc::AllocError;
 use std::alloc::Global;
 
@@ -19,22 +20,31 @@ pub struct Report {
 pub fn tell(heap: Global, bytes: &[u8]) -> Result<Report, AllocError>
     ensures { λ r. ⌜ made r (λ t. Tells t (reading (now (bytes .entry)))) ⌝ }
 {
-    match Graph::read(heap, bytes) {
-        Ok(graph) => Ok(Report { text: table(heap, &graph)?, accepted: true }),
-        Err(Error::Refused(fault)) => Ok(Report { text: format!(heap, "{fault}\n")?, accepted: false }),
+    match read_graph(heap, bytes) {
+        Ok(graph) => Ok(Report {
+            text: table(heap, &graph)?,
+            accepted: true,
+        }),
+        Err(Error::Refused(fault)) => Ok(Report {
+            text: format!(heap, "{fault}\n")?,
+            accepted: false,
+        }),
         Err(Error::OutOfMemory) => Err(AllocError),
     }
 }
 
 // A line on the whole plan, a header, and a row for each task in plan order.
 fn table(heap: Global, graph: &Graph) -> Result<String, AllocError> {
-    let cores = graph.cores();
-    let deadline = graph.deadline();
-    let segments = graph.segments().len();
-    let mut text = format!(heap, "cores {cores} deadline {deadline} segments {segments}\n")?;
+    let cores = graph.cores;
+    let deadline = graph.deadline;
+    let segments = graph.segments.len();
+    let mut text = format!(
+        heap,
+        "cores {cores} deadline {deadline} segments {segments}\n"
+    )?;
     text.push_str("segment task worst predecessors\n")?;
-    for (s, segment) in graph.segments().iter().enumerate() {
-        for (t, task) in segment.tasks().iter().enumerate() {
+    for (s, segment) in graph.segments.iter().enumerate() {
+        for (t, task) in segment.tasks.iter().enumerate() {
             text.push_str(row(heap, s, t, task)?.as_str())?;
         }
     }
@@ -42,8 +52,8 @@ fn table(heap: Global, graph: &Graph) -> Result<String, AllocError> {
 }
 
 fn row(heap: Global, segment: usize, number: usize, task: &Task) -> Result<String, AllocError> {
-    let worst = task.worst();
-    let predecessors = commas(heap, task.predecessors())?;
+    let worst = task.worst;
+    let predecessors = commas(heap, task.predecessors.as_slice())?;
     format!(heap, "{segment} {number} {worst} {predecessors}\n")
 }
 

@@ -1,4 +1,2 @@
-pub mod Answers
-pub mod Laid
 pub mod Meaning
 pub mod Whole

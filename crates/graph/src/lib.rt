@@ -1,9 +1,7 @@
-// The AND/OR graph that a plan's bytes describe.
-mod access;
+// The AND/OR graph that a plan's bytes describe. The fields are public: what a graph has to keep is in its type, and
+// owed by whoever makes or changes one.
 mod parts;
-mod reader;
 mod structure;
-mod writer;
 
 pub use parts::Segment;
 pub use parts::Task;

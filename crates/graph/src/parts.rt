@@ -5,9 +5,9 @@ ghost use Rattle.std.specs.Of.Vec.{vec-len};
 // tasks of its segment.
 #[derive(Drop)]
 pub struct Task {
-    pub(crate) name: Vec<u8>,
-    pub(crate) worst: u32,
-    pub(crate) predecessors: Vec<u32>,
+    pub name: Vec<u8>,
+    pub worst: u32,
+    pub predecessors: Vec<u32>,
     ghost name_counted: { vec-len name < 2 ^ 32 },
     ghost predecessors_counted: { vec-len predecessors < 2 ^ 32 },
 }
@@ -15,8 +15,8 @@ pub struct Task {
 // A segment: the tasks between two OR nodes, and its exits, the higher segments of which one may follow.
 #[derive(Drop)]
 pub struct Segment {
-    pub(crate) tasks: Vec<Task>,
-    pub(crate) exits: Vec<u32>,
+    pub tasks: Vec<Task>,
+    pub exits: Vec<u32>,
     ghost tasks_counted: { vec-len tasks < 2 ^ 32 },
     ghost exits_counted: { vec-len exits < 2 ^ 32 },
 }

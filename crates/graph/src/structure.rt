@@ -12,9 +12,9 @@ use crate::parts::Segment;
 // A graph, the cores to run it on, and its deadline in ticks. It is well-formed, whoever holds it.
 #[derive(Drop)]
 pub struct Graph {
-    pub(crate) cores: u32,
-    pub(crate) deadline: u32,
-    pub(crate) segments: Vec<Segment>,
+    pub cores: u32,
+    pub deadline: u32,
+    pub segments: Vec<Segment>,
     ghost formed: { well-formed (graph-with cores deadline (vec-items segments)) ≡ true },
     ghost counted: { vec-len segments < 2 ^ 32 },
     ghost short: { length (graph-bytes (graph-with cores deadline (vec-items segments))) < 2 ^ 64 },

@@ -27,8 +27,8 @@ module _ (count : ℕ) where
   next-rising over least top before bs =
       then (number count bs) (λ n rest.
       cond (ltb n top)
-        (cond (leb (past least before) n) (Ok (n, rest)) (Err (fault NotRising (at count bs))))
-        (Err (fault over (at count bs))))
+      (cond (leb (past least before) n) (Ok (n, rest)) (Err (fault NotRising (at count bs))))
+      (Err (fault over (at count bs))))
 
   -- the task of number `own` in its segment, where the plan may have `left` predecessors more
   abbrev pub numbered-task : ℕ → ℕ → List ℕ → Read Task

@@ -56,9 +56,9 @@ capped : (sum weight d : ℕ) → min (min sum 4294967296 + d * min weight 34359
 capped sum weight d =
     ⊎-elim
     (λ (heavy : 34359738368 < weight). ⊎-elim
-      (λ (none : d ≡ 0). rw none (rw (zero-mul, zero-mul) (omega arith)))
-      (λ some. omega (arith, mul-le-mul-right (min weight 34359738368) (one-up d some), mul-le-mul-right weight (one-up d some)))
-      (cases-eq d 0))
+    (λ (none : d ≡ 0). rw none (rw (zero-mul, zero-mul) (omega arith)))
+    (λ some. omega (arith, mul-le-mul-right (min weight 34359738368) (one-up d some), mul-le-mul-right weight (one-up d some)))
+    (cases-eq d 0))
     (λ (light : weight ≤ 34359738368). rw (min-eq-left {n = weight} {m = 34359738368} light) (omega arith))
     (cases-lt 34359738368 weight)
   where
@@ -95,9 +95,9 @@ judge : (x : ℕ) (z : Bool) (e : Read ℕ) (bs : List ℕ) → cond (eqb (min x
 judge x z e bs =
     ⊎-elim
     (λ (small : x < 4294967296). rw (min-eq-left {n = x} {m = 4294967296} (omega arith)) (rw (ne-eqb x 4294967296 (omega arith)) (rw (lt-ltb x 4294967296 small)
-      (elim z as (λ v. cond (false || v) e (Ok (x, bs)) ≡ cond (not v && true) (Ok (x, bs)) e) [ true ↦ refl | false ↦ refl ]))))
+    (elim z as (λ v. cond (false || v) e (Ok (x, bs)) ≡ cond (not v && true) (Ok (x, bs)) e) [ true ↦ refl | false ↦ refl ]))))
     (λ (large : 4294967296 ≤ x). rw (min-eq-right {n = 4294967296} {m = x} large) (rw (le-ltb x 4294967296 large)
-      (elim z as (λ v. cond (true || v) e (Ok (4294967296, bs)) ≡ cond (not v && false) (Ok (x, bs)) e) [ true ↦ refl | false ↦ refl ])))
+    (elim z as (λ v. cond (true || v) e (Ok (4294967296, bs)) ≡ cond (not v && false) (Ok (x, bs)) e) [ true ↦ refl | false ↦ refl ])))
     (cases-lt x 4294967296)
 
 module _ (count place : ℕ) where
@@ -113,9 +113,9 @@ module _ (count place : ℕ) where
       ⊎-elim
       (λ (low : b < 128). rw (lt-ltb b 128 low) (last-group done bs b))
       (λ (high : 128 ≤ b). rw (le-ltb b 128 high) (⊎-elim
-        (λ (byte : b < 256). rw (lt-ltb b 256 byte) (step done bs b next))
-        (λ (none : 256 ≤ b). rw (le-ltb b 256 none) refl)
-        (cases-lt b 256)))
+      (λ (byte : b < 256). rw (lt-ltb b 256 byte) (step done bs b next))
+      (λ (none : 256 ≤ b). rw (le-ltb b 256 none) refl)
+      (cases-lt b 256)))
       (cases-lt b 128)
     where
       step : (done bs : List ℕ) (b : ℕ) → onward count place (min (value (done ++ (b ∷ []))) 4294967296) (min (weighs (done ++ (b ∷ []))) 34359738368) bs ≡ judged count place (onto (done ++ (b ∷ [])) (groups bs)) → onward count place (added (min (value done) 4294967296) (min (weighs done) 34359738368) b) (heavier (min (weighs done) 34359738368)) bs ≡ judged count place (onto done (behind b (groups bs)))

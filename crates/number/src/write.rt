@@ -28,7 +28,10 @@ impl Groups {
             left /= 128;
         }
         bytes[len] = left as u8;
-        Groups { bytes, len: len + 1 }
+        Groups {
+            bytes,
+            len: len + 1,
+        }
     }
 
     pub fn as_slice(&self) -> &[u8]
@@ -46,7 +49,10 @@ pub fn write_number(n: u32, out: &mut [u8]) -> Result<usize, Fault>
     let bytes = groups.as_slice();
     let size = bytes.len();
     if out.len() < size {
-        return Err(Fault { kind: Kind::TooSmall, place: size as u64 });
+        return Err(Fault {
+            kind: Kind::TooSmall,
+            place: size as u64,
+        });
     }
     out[0..size].copy_from_slice(bytes);
     Ok(size)

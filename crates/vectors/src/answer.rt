@@ -3,8 +3,11 @@ use fault::Error;
 use fault::FaultDisplay;
 use graph::Graph;
 use number::read_number;
-use std::error::AnyError;
+use reader::read_graph;
 use std::alloc::Global;
+use std::error::AnyError;
+use writer::graph_size;
+use writer::write_graph;
 
 // What a case answers.
 pub fn answer(heap: Global, line: &str) -> Result<String, AnyError> {
@@ -44,7 +47,7 @@ fn answer_number(heap: Global, bytes: &[u8], at: usize) -> Result<String, AnyErr
 }
 
 fn answer_plan(heap: Global, bytes: &[u8]) -> Result<String, AnyError> {
-    match Graph::read(heap, bytes) {
+    match read_graph(heap, bytes) {
         Ok(graph) => answer_written(heap, bytes, &graph),
         Err(Error::Refused(fault)) => Ok(format!(heap, "{fault}")?),
         Err(Error::OutOfMemory) => Err("out of memory".into()),
@@ -53,8 +56,8 @@ fn answer_plan(heap: Global, bytes: &[u8]) -> Result<String, AnyError> {
 
 // An accepted plan has to be written as it was read.
 fn answer_written(heap: Global, bytes: &[u8], graph: &Graph) -> Result<String, AnyError> {
-    let mut run = vec![in heap; 0u8; graph.size()]?;
-    match graph.write(run.as_mut_slice()) {
+    let mut run = vec![in heap; 0u8; graph_size(graph)]?;
+    match write_graph(graph, run.as_mut_slice()) {
         Ok(size) => {
             if run.as_slice() == bytes {
                 Ok(format!(heap, "accepted {size}")?)

@@ -25,5 +25,9 @@ pub fn unhex(heap: Global, text: &str) -> Result<Option<Vec<u8>>, AllocError> {
             }
         }
     }
-    if high.is_some() { Ok(None) } else { Ok(Some(bytes)) }
+    if high.is_some() {
+        Ok(None)
+    } else {
+        Ok(Some(bytes))
+    }
 }

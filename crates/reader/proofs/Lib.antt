@@ -1,0 +1,4 @@
+mod Exits
+mod Several
+mod Totals
+mod Whole

@@ -1,0 +1,8 @@
+// The reader of plan bytes.
+mod entries;
+mod pieces;
+mod plan;
+mod segments;
+mod tasks;
+
+pub use plan::read_graph;
