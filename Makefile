@@ -9,6 +9,7 @@ run:
 # Proves every crate, then runs every program and every test; takes over what has not changed since the last run.
 test:
 	rt check
+	tools/smoke.sh
 
 # The same from nothing, with the must-fail edits: the verdict.
 gate:
