@@ -1,23 +1,15 @@
 ghost use mathlib.Core.Path.{_≡_};
-ghost use Prim.Native.Nat.{_≤_};
-ghost use lib.ListN.{take};
 ghost use Rattle.model.specs.Numbers.{number-bytes};
 ghost use Rattle.model.specs.Writing.{Written};
+ghost use Rattle.number.specs.Held.{bytes-of};
+use crate::form::Groups;
 use fault::Fault;
 use fault::Kind;
-
-// The bytes of a number: at most five groups.
-#[derive(Clone, Copy)]
-pub struct Groups {
-    bytes: [u8; 5],
-    len: usize,
-    ghost fits: { len ≤ 5 },
-}
 
 impl Groups {
     // The groups of `n`, lowest first.
     pub fn new(n: u32) -> Groups
-        ensures { λ r. ⌜ take (r .len) (r .bytes) ≡ number-bytes n ⌝ }
+        ensures { λ r. ⌜ bytes-of r ≡ number-bytes n ⌝ }
     {
         let mut bytes = [0; 5];
         let mut len = 0;
@@ -35,7 +27,7 @@ impl Groups {
     }
 
     pub fn as_slice(&self) -> &[u8]
-        ensures { λ r. ⌜ now r ≡ take (now (self .entry) .len) (now (self .entry) .bytes) ⌝ }
+        ensures { λ r. ⌜ now r ≡ bytes-of (now (self .entry)) ⌝ }
     {
         &self.bytes[0..self.len]
     }

@@ -3,7 +3,7 @@ use mathlib.Core.List.{_++_}
 use mathlib.Core.Path.{_≡_}
 use lib.ListN.{length, take}
 use Rattle.model.specs.Numbers.{digits, number-bytes}
-use Rattle.number.proofs.write.Groups.new.Given as given
+use Rattle.number.proofs.form.Groups.new.Given as given
 
 -- the groups so far and those of what is left are the number's, and what is left fits the groups that are left
 abbrev pub Inv-loop-left : given.InvT-loop-left

@@ -5,7 +5,7 @@ use native.Mathlib.Omega.{arith}
 use lib.ListN.{length, length-set}
 use Rattle.model.specs.Numbers.{number-bytes}
 use Rattle.number.proofs.Digits.{room, digits-more, digits-last}
-use Rattle.number.proofs.write.Groups.new.Needs as need
+use Rattle.number.proofs.form.Groups.new.Needs as need
 
 pub loop-left-holds : need.loop-left-holds
 unfolding number-bytes
