@@ -1,6 +1,6 @@
 -- The one line that a fault prints.
 use Prim.Native.Nat.{ℕ}
-use mathlib.Core.List.{List, _++_, _∷_}
+use mathlib.Core.List.{List, _++_}
 use lib.Chars.{codes}
 use Rattle.std.specs.Written.{decimal}
 use Rattle.fault.specs.declared.kind.Fault.{Fault}

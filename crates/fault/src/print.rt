@@ -1,5 +1,3 @@
-ghost use mathlib.Core.List.{_++_};
-ghost use lib.Chars.{codes};
 ghost use Rattle.std.specs.declared.option.Option.the-variants.{Some};
 ghost use Rattle.fault.specs.Card.{layer};
 ghost use Rattle.fault.specs.Shown.{refusal, name};

@@ -1,4 +1,3 @@
-ghost use denote.Ref.{now};
 ghost use mathlib.Core.Bool.{true};
 ghost use mathlib.Core.Path.{_≡_};
 ghost use Prim.Native.Nat.{_^_, _<_};

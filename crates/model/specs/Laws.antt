@@ -1,7 +1,7 @@
 -- The laws over plan bytes, one name each.
 use Prim.Native.Nat.{ℕ, _<_}
 use mathlib.Core.Bool.{true}
-use mathlib.Core.List.{List, [], _∷_, _++_}
+use mathlib.Core.List.{List, _∷_, _++_}
 use mathlib.Core.Path.{_≡_}
 use lib.ListN.{length, take}
 use Rattle.std.specs.declared.result.Result.the-variants.{Ok, Err}

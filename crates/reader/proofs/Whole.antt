@@ -6,10 +6,10 @@ use mathlib.Core.List.{List, []}
 use mathlib.Core.Path.{_≡_, refl, ap, sym, _∙_}
 use lib.ListN.{length}
 use Rattle.std.specs.declared.result.Result.{Result}
-use Rattle.std.specs.declared.result.Result.the-variants.{Ok, Err}
+use Rattle.std.specs.declared.result.Result.the-variants.{Ok}
 use Rattle.fault.specs.declared.kind.Fault.{Fault}
 use Rattle.model.specs.Bytes.{several}
-use Rattle.model.specs.Graph.{Graph, Segment}
+use Rattle.model.specs.Graph.{Segment}
 use Rattle.model.specs.Reading.{ranged, next-segment, numbers, nothing-left, entries, reading}
 use Rattle.reader.specs.Answers.{passing}
 use Rattle.reader.proofs.Several.{several-length}

@@ -4,7 +4,7 @@ use mathlib.Core.Path.{_≡_, ap, sym, _∙_}
 use Prim.Native.Nat.{_-_, _<_, _≤_}
 use native.Mathlib.Omega.{arith}
 use lib.ListN.{length, getD}
-use Rattle.number.proofs.Onward.{added, heavier, onward, onward-number, first-and-rest, onward-none, onward-last, onward-more}
+use Rattle.number.proofs.Onward.{onward, onward-number, first-and-rest, onward-none, onward-last, onward-more}
 use Rattle.number.proofs.read.read_number.Needs as need
 
 pub loop-rest-holds : need.loop-rest-holds

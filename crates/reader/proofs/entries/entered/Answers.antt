@@ -1,11 +1,9 @@
-use borrow.Author.Needs.{needs}
 use mathlib.Core.Bool.{_||_}
 use mathlib.Core.List.{map}
 use mathlib.Core.Path.{_≡_, ap, sym, _∙_}
 use Prim.Native.Nat.{_+_}
 use lib.ListN.{drop}
 use Rattle.std.proofs.shelf.Lists.{at-drop-all}
-use Rattle.std.specs.Of.Vec.{vec-items}
 use Rattle.model.specs.Graph.{entered}
 use Rattle.model.specs.Lists.{has}
 use Rattle.graph.specs.Meaning.{segment-of}

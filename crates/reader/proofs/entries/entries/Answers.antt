@@ -1,4 +1,3 @@
-use borrow.Author.Needs.{needs}
 use mathlib.Core.Path.{ap, sym, _∙_}
 use Rattle.std.proofs.shelf.Tests.{cond-true, cond-false}
 use Rattle.model.specs.Graph.{entered}

@@ -2,11 +2,11 @@ use borrow.Author.Needs.{needs}
 use Prim.Native.Nat.{_^_, _<_}
 use native.Mathlib.Omega.{arith}
 use mathlib.Core.List.{map}
-use mathlib.Core.Path.{_≡_, refl, ap, sym, _∙_}
+use mathlib.Core.Path.{_≡_, ap, sym, _∙_}
 use lib.ListN.{length}
 use Rattle.std.proofs.shelf.Results.{err-from-errBy}
 use Rattle.std.specs.Of.Vec.{vec-items, vec-len}
-use Rattle.std.specs.declared.result.Result.the-variants.{Ok, Err}
+use Rattle.std.specs.declared.result.Result.the-variants.{Ok}
 use Rattle.model.proofs.GraphLaws.{graphs-read-are-formed, graphs-take-their-bytes}
 use Rattle.model.specs.Graph.{Graph}
 use Rattle.model.specs.Reading.{reading}

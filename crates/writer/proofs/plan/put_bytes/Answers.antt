@@ -1,9 +1,7 @@
-use borrow.Author.Needs.{needs}
-use mathlib.Core.List.{List, _∷_}
 use mathlib.Core.Path.{_≡_, ap, sym, _∙_}
-use Prim.Native.Nat.{ℕ, _+_}
+use Prim.Native.Nat.{_+_}
 use native.Mathlib.Omega.{arith}
-use lib.ListN.{length, getD, drop, set}
+use lib.ListN.{getD, drop, set}
 use Rattle.std.proofs.shelf.Lists.{at-drop-more, at-drop-all, set-past}
 use Rattle.writer.specs.Laid.{over}
 use Rattle.writer.proofs.plan.put_bytes.Needs as need

@@ -1,12 +1,11 @@
 use borrow.Author.Needs.{needs}
-use mathlib.Core.List.{_++_, map}
-use mathlib.Core.Path.{_≡_, sym, ap, _∙_}
-use Prim.Native.Nat.{_+_, _<_}
+use mathlib.Core.List.{map}
+use mathlib.Core.Path.{_≡_, ap, _∙_}
+use Prim.Native.Nat.{_+_}
 use lib.ListN.{length}
 use Rattle.std.specs.Of.Vec.{vec-items}
 use Rattle.model.specs.Numbers.{number-bytes}
 use Rattle.model.specs.Writing.{listed, task-bytes}
-use Rattle.writer.specs.Laid.{Laid, Countable}
 use Rattle.graph.specs.Meaning.{task-of}
 use Rattle.writer.proofs.Laying.{laid-then, count-first, count-rest, listed-map}
 use Rattle.writer.proofs.plan.SegmentPut.put.Needs as need

@@ -1,16 +1,14 @@
 use borrow.Author.Needs.{needs}
-use mathlib.Core.List.{List, _++_}
-use mathlib.Core.Path.{_≡_, sym, ap, _∙_}
-use Prim.Native.Nat.{ℕ, _^_, _<_}
-use native.Mathlib.Omega.{arith}
+use mathlib.Core.List.{_++_}
+use mathlib.Core.Path.{_≡_, _∙_}
 use lib.ListN.{length}
 use Rattle.std.specs.Of.Vec.{vec-items}
 use Rattle.model.specs.Numbers.{number-bytes}
 use Rattle.model.specs.Writing.{listed}
-use Rattle.writer.specs.Laid.{Laid, Countable}
+use Rattle.writer.specs.Laid.{Countable}
 use Rattle.writer.proofs.Laying.{laid-then, count-first, count-rest}
 use Rattle.writer.proofs.plan.TaskPut.put.Needs as need
-use Rattle.writer.proofs.plan.TaskPut.put.Needs.{After-len, After-put-named, After-put-bytes-after, After-put-timed, at·put-named-requires, at·After-put-named, at·After-put-bytes-after, at·After-put-timed, at·put-bytes-after-requires, at·put-timed-requires, at·put-list-requires, at·returns}
+use Rattle.writer.proofs.plan.TaskPut.put.Needs.{After-len, After-put-named, After-put-bytes-after, at·put-named-requires, at·After-put-named, at·After-put-bytes-after, at·put-bytes-after-requires, at·put-timed-requires, at·put-list-requires, at·returns}
 
 size : (c : need.After-len) → c .len .result ≡ length (vec-items (c .args .self .now .name))
 size c = c .len .ensures ∙ c .args .self .now .name .ok .0
