@@ -29,11 +29,12 @@ pub returns-in-Break-segment : need.returns-in-Break-segment
 returns-in-Break-segment c =
     let p = err-from-errBy (c .from-residual .result) (c .from-residual .ensures .1) in
     let same = counted (need.at·returns-in-Break-segment c .After-segment) in
-    rw (p .1, p .2) (record
-      { reads = failed (c .in-Break-segment .field-0 .0) _ _
+    rw (p .1, p .2) (record {
+      reads = failed (c .in-Break-segment .field-0 .0) _ _
           (λ f e. several-fault (next-segment (c .args .count) (c .args .many)) _ (c .args .many) (c .loop-own .own) _ (c .loop-own .rest .now) (c .loop-own .inv .0) f (c .loop-own-test .taken) (same ∙ e))
-          (c .in-Break-segment .ensures tt)
-      ; len = tt })
+          (c .in-Break-segment .ensures tt);
+      len = tt;
+    })
 
 pub loop-own-again : need.loop-own-again
 loop-own-again c =
@@ -44,9 +45,10 @@ loop-own-again c =
     let tasks = ap tasks-in pushed ∙ tasks-in-push done (segment-of s) in
     let few = length-map (vec-items (s .tasks)) task-of in
     let total = ap predecessors-in pushed ∙ predecessors-in-push done (segment-of s) in
-    let spent = ap (λ ts. predecessors-of (map task-of ts)) (c .as-slice .ensures .value) in
-    ( several-more (next-segment (c .args .count) (c .args .many)) _ (c .args .many) (c .loop-own .own) done (c .loop-own .rest .now) (c .loop-own .inv .0) _ _ (c .loop-own-test .taken) (same ∙ c .in-Continue-segment .ensures tt)
-      ∙ ap (λ ss. several (next-segment (c .args .count) (c .args .many)) (c .args .many - (c .loop-own .own + 1)) ss (c .in-Continue-segment .more .now)) (sym pushed)
-    , omega (arith, tasks, few, c .loop-own .inv .1, c .saturating-sub-tasks-left .ensures, c .len .ensures, s .tasks .ok .0)
-    , omega (arith, total, spent, c .loop-own .inv .2, c .left-after-left .ensures)
-    , search needs)
+    let spent = ap (λ ts. predecessors-of (map task-of ts)) (c .as-slice .ensures .value) in (
+      several-more (next-segment (c .args .count) (c .args .many)) _ (c .args .many) (c .loop-own .own) done (c .loop-own .rest .now) (c .loop-own .inv .0) _ _ (c .loop-own-test .taken) (same ∙ c .in-Continue-segment .ensures tt)
+          ∙ ap (λ ss. several (next-segment (c .args .count) (c .args .many)) (c .args .many - (c .loop-own .own + 1)) ss (c .in-Continue-segment .more .now)) (sym pushed),
+      omega (arith, tasks, few, c .loop-own .inv .1, c .saturating-sub-tasks-left .ensures, c .len .ensures, s .tasks .ok .0),
+      omega (arith, total, spent, c .loop-own .inv .2, c .left-after-left .ensures),
+      search needs,
+    )

@@ -28,11 +28,12 @@ pub returns-in-Break-task : need.returns-in-Break-task
 returns-in-Break-task c =
     let p = err-from-errBy (c .from-residual .result) (c .from-residual .ensures .1) in
     let same = counted (need.at·returns-in-Break-task c .After-task) in
-    rw (p .1, p .2) (record
-      { reads = failed (c .in-Break-task .field-0 .0) _ _
+    rw (p .1, p .2) (record {
+      reads = failed (c .in-Break-task .field-0 .0) _ _
           (λ f e. several-fault (next-task (c .args .count) (c .args .left)) _ (c .args .many) (c .loop-own .own) _ (c .loop-own .rest .now) (c .loop-own .inv .0) f (c .loop-own-test .taken) (same ∙ e))
-          (c .in-Break-task .ensures tt)
-      ; len = tt })
+          (c .in-Break-task .ensures tt);
+      len = tt;
+    })
 
 pub loop-own-again : need.loop-own-again
 loop-own-again c =
@@ -40,8 +41,9 @@ loop-own-again c =
     let t = c .in-Continue-task .task in
     let same = counted (need.at·loop-own-again c .After-task) in
     let pushed = ap (map task-of) (c .in-Continue-push .ensures tt .items) ∙ map-push task-of (vec-items (c .loop-own .tasks)) t in
-    let total = ap predecessors-of pushed ∙ predecessors-of-push done (task-of t) in
-    ( several-more (next-task (c .args .count) (c .args .left)) _ (c .args .many) (c .loop-own .own) done (c .loop-own .rest .now) (c .loop-own .inv .0) _ _ (c .loop-own-test .taken) (same ∙ c .in-Continue-task .ensures tt)
-      ∙ ap (λ ts. several (next-task (c .args .count) (c .args .left)) (c .args .many - (c .loop-own .own + 1)) ts (c .in-Continue-task .more .now)) (sym pushed)
-    , omega (arith, total, c .loop-own .inv .1, c .saturating-sub-allowed .ensures, c .len .ensures, t .predecessors .ok .0)
-    , search needs)
+    let total = ap predecessors-of pushed ∙ predecessors-of-push done (task-of t) in (
+      several-more (next-task (c .args .count) (c .args .left)) _ (c .args .many) (c .loop-own .own) done (c .loop-own .rest .now) (c .loop-own .inv .0) _ _ (c .loop-own-test .taken) (same ∙ c .in-Continue-task .ensures tt)
+          ∙ ap (λ ts. several (next-task (c .args .count) (c .args .left)) (c .args .many - (c .loop-own .own + 1)) ts (c .in-Continue-task .more .now)) (sym pushed),
+      omega (arith, total, c .loop-own .inv .1, c .saturating-sub-allowed .ensures, c .len .ensures, t .predecessors .ok .0),
+      search needs,
+    )

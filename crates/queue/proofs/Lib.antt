@@ -1,0 +1,6 @@
+mod Draining
+mod Filling
+mod Putting
+mod Ranking
+mod Rising
+mod Taking
