@@ -1,25 +1,23 @@
 // bagplan: reads a plan's bytes from standard input and prints what the plan says, or why it is refused.
-mod input;
 mod report;
 
-use input::fill;
-use report::tell;
+use report::report_on;
 use std::error::AnyError;
+use std::io::Read;
 
 // As many bytes are read; later ones are not.
-const MOST: usize = 16_384;
+const MOST: u64 = 16_384;
 
 // Whether the plan is accepted.
 fn run(rt: &LibcRuntime) -> Result<bool, AnyError> {
-    let mut buffer = [0; MOST];
-    let mut input = rt.stdin();
-    let count = fill(&mut input, &mut buffer)?;
-    let told = tell(rt.alloc(), &buffer[0..count])?;
-    print!(rt, "{}", told.text)?;
-    Ok(told.accepted)
+    let mut bytes = Vec::new(rt.alloc());
+    rt.stdin().take(MOST).read_to_end(&mut bytes)?;
+    let report = report_on(rt.alloc(), bytes.as_slice())?;
+    print!(rt, "{}", report.text)?;
+    Ok(report.accepted)
 }
 
-// A refusal is told on standard output, and ends the program with status 1.
+// A refusal is printed on standard output, and ends the program with status 1.
 fn main(rt: LibcRuntime) -> Result<(), AnyError> {
     match run(&rt) {
         Ok(true) => Ok(()),
