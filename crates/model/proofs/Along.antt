@@ -49,7 +49,7 @@ module _ {X : Type 0} (P : List X → X → Type 0) (d : X) where
 
 -- a cost of each thing and a limit on their sum: each keeps to what those before it leave
 module _ {X : Type 0} (cost : X → ℕ) (total : List X → ℕ) (none : total [] ≡ 0) (more : (x : X) (xs : List X) → total (x ∷ xs) ≡ cost x + total xs) where
-  total-push : (xs : List X) (x : X) → total (xs ++ (x ∷ [])) ≡ total xs + cost x
+  pub total-push : (xs : List X) (x : X) → total (xs ++ (x ∷ [])) ≡ total xs + cost x
   total-push [] x = omega (arith, more x [], none)
   total-push (y ∷ ys) x = omega (arith, more y (ys ++ (x ∷ [])), more y ys, total-push ys x)
 

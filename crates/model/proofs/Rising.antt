@@ -15,7 +15,7 @@ abbrev pub Rising : ℕ → ℕ → List ℕ → Type 0
 Rising low top [] = Unit {0}
 Rising low top (x ∷ xs) = (low ≤ x) × (x < top) × Rising (x + 1) top xs
 
-past-push : (least : ℕ) (xs : List ℕ) (x : ℕ) → past least (xs ++ (x ∷ [])) ≡ x + 1
+pub past-push : (least : ℕ) (xs : List ℕ) (x : ℕ) → past least (xs ++ (x ∷ [])) ≡ x + 1
 past-push least [] x = refl
 past-push least (y ∷ ys) x = past-push (y + 1) ys x
 

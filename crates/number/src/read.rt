@@ -1,6 +1,7 @@
 ghost use mathlib.Core.Path.{_≡_};
 ghost use Rattle.model.specs.Numbers.{number};
 ghost use Rattle.number.specs.Told.{told};
+use crate::place::place_of;
 use fault::Fault;
 use fault::Kind;
 
@@ -15,7 +16,7 @@ const HEAVIEST: u64 = 34_359_738_368;
 pub fn read_number<'a>(count: usize, bytes: &'a [u8]) -> Result<(u32, &'a [u8]), Fault>
     ensures { λ r. ⌜ told r ≡ number count (now (bytes .entry)) ⌝ }
 {
-    let place = count.saturating_sub(bytes.len()) as u64;
+    let place = place_of(count, bytes);
     let mut rest = bytes;
     let mut sum: u64 = 0;
     let mut weight: u64 = 1;

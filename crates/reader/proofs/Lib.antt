@@ -1,4 +1,3 @@
 mod Exits
 mod Several
-mod Totals
 mod Whole

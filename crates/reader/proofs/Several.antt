@@ -1,8 +1,8 @@
 -- A loop that reads several things, one a turn: `all` is what reading them from the first on answers.
-use Prim.Native.Nat.{ℕ, zero, suc, _+_, _-_, _<_, _≤_}
+use Prim.Native.Nat.{ℕ, zero, suc, _+_, _-_, _<_}
 use native.Mathlib.Omega.{arith}
 use mathlib.Core.List.{List, [], _∷_, _++_}
-use mathlib.Core.Path.{_≡_, refl, ap}
+use mathlib.Core.Path.{_≡_, ap}
 use lib.ListN.{length}
 use Rattle.std.proofs.shelf.Lists.{length-push}
 use Rattle.std.specs.declared.result.Result.{Result}
@@ -11,7 +11,6 @@ use Rattle.fault.specs.declared.error.Error.{Error}
 use Rattle.fault.specs.declared.error.Error.the-variants.{Refused, OutOfMemory}
 use Rattle.fault.specs.declared.kind.Fault.{Fault}
 use Rattle.model.specs.Bytes.{Read, then, several}
-use Rattle.model.specs.Lists.{past}
 use Rattle.model.proofs.ListReading.{then-ok, ok-is}
 use Rattle.reader.specs.Answers.{Fails}
 
@@ -27,19 +26,10 @@ module _ {X : Type 0} (item : List X → List ℕ → Read X) (all : Read (List 
   pub several-fault : (f : Fault) → i < many → item done rest ≡ Err f → all ≡ Err f
   several-fault f turn one = rw one at (opened turn)
 
-  -- all are read
-  pub several-all : many ≤ i → all ≡ Ok (done, rest)
-  several-all over = let n : many - i ≡ 0 = omega arith in rw n at so-far
-
 -- an error in the place of the next thing is the answer, also where it is want of memory
 pub failed : {Y W : Type 0} (e : Error) (one : Result Y Fault) (all : Result W Fault) → ((f : Fault) → one ≡ Err f → all ≡ Err f) → Fails e one → Fails e all
 failed (Refused f) one all on r = on f r
 failed OutOfMemory one all on r = tt
-
--- after a number more, the lowest that may follow is one past it
-pub past-push : (least n : ℕ) (done : List ℕ) → past least (done ++ (n ∷ [])) ≡ n + 1
-past-push least n [] = refl
-past-push least n (x ∷ xs) = past-push (x + 1) n xs
 
 -- as many are read as were asked for
 pub several-length : {X : Type 0} (item : List X → List ℕ → Read X) (n : ℕ) (done : List X) (bs : List ℕ) (xs : List X) (rest : List ℕ) → several item n done bs ≡ Ok (xs, rest) → length xs ≡ length done + n

@@ -8,6 +8,7 @@ ghost use Rattle.reader.specs.Answers.{passing};
 use fault::Fault;
 use fault::Kind;
 use graph::Segment;
+use number::place_of;
 
 // Nothing may follow the last number.
 pub(crate) fn nothing_left(count: usize, rest: &[u8]) -> Result<(), Fault>
@@ -16,7 +17,7 @@ pub(crate) fn nothing_left(count: usize, rest: &[u8]) -> Result<(), Fault>
     if rest.is_empty() {
         return Ok(());
     }
-    let place = count.saturating_sub(rest.len()) as u64;
+    let place = place_of(count, rest);
     Err(Fault {
         kind: Kind::TrailingBytes,
         place,

@@ -12,6 +12,7 @@ use fault::ErrorFromFault;
 use fault::ErrorFromRefused;
 use fault::Fault;
 use fault::Kind;
+use number::place_of;
 use number::read_number;
 use std::alloc::Global;
 
@@ -28,7 +29,7 @@ pub(crate) fn ranged<'a>(
 {
     let (n, rest) = read_number(count, bytes)?;
     if (n as usize) < low || n as usize > high {
-        let place = count.saturating_sub(bytes.len()) as u64;
+        let place = place_of(count, bytes);
         return Err(Fault {
             kind: Kind::OutOfRange,
             place,
@@ -48,7 +49,7 @@ fn next_rising<'a>(
     ensures { λ r. ⌜ told r ≡ next-rising count over least top [] (now (bytes .entry)) ⌝ }
 {
     let (n, rest) = read_number(count, bytes)?;
-    let place = count.saturating_sub(bytes.len()) as u64;
+    let place = place_of(count, bytes);
     if n >= top {
         return Err(Fault { kind: over, place });
     }

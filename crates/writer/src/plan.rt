@@ -1,7 +1,8 @@
 ghost use mathlib.Core.List.{List};
 ghost use mathlib.Core.Path.{_≡_};
 ghost use Prim.Native.Nat.{ℕ, _^_, _<_};
-ghost use lib.ListN.{length};
+ghost use lib.ListN.{length, take};
+ghost use Rattle.std.specs.Vec.{made};
 ghost use Rattle.model.specs.Numbers.{number-bytes};
 ghost use Rattle.std.specs.declared.result.Result.the-variants.{Ok};
 ghost use Rattle.model.specs.Reading.{reading};
@@ -18,7 +19,7 @@ use number::Groups;
 
 // Each writer lays bytes over a run from a place on, as far as the run reaches, and answers the place after them.
 // Over an empty run it only counts.
-pub(crate) trait Put {
+trait Put {
     ghost bytes: { Self → List ℕ };
 
     fn put(&self, out: &mut [u8], at: usize) -> usize
@@ -26,7 +27,7 @@ pub(crate) trait Put {
         ensures { λ r. ⌜ Laid (bytes (now (self .entry))) at (now (out .entry)) r (now (out .exit)) ⌝ };
 }
 
-pub(crate) fn put_bytes(out: &mut [u8], at: usize, bytes: &[u8]) -> usize
+fn put_bytes(out: &mut [u8], at: usize, bytes: &[u8]) -> usize
     requires { ⌜ Countable at (now bytes) ⌝ }
     ensures { λ r. ⌜ Laid (now (bytes .entry)) at (now (out .entry)) r (now (out .exit)) ⌝ }
 {
@@ -40,7 +41,7 @@ pub(crate) fn put_bytes(out: &mut [u8], at: usize, bytes: &[u8]) -> usize
     place
 }
 
-pub(crate) impl Put for u32 as NumberPut {
+impl Put for u32 as NumberPut {
     ghost bytes = { λ n. number-bytes n };
 
     fn put(&self, out: &mut [u8], at: usize) -> usize {
@@ -50,7 +51,7 @@ pub(crate) impl Put for u32 as NumberPut {
 }
 
 // How many, and then each.
-pub(crate) fn put_list<T: Put>(out: &mut [u8], at: usize, items: &[T]) -> usize
+fn put_list<T: Put>(out: &mut [u8], at: usize, items: &[T]) -> usize
     requires { ⌜ length (now items) < 2 ^ 32 ⌝ ∗ ⌜ Countable at (listed bytes (now items)) ⌝ }
     ensures { λ r. ⌜ Laid (listed bytes (now (items .entry))) at (now (out .entry)) r (now (out .exit)) ⌝ }
 {
@@ -62,7 +63,7 @@ pub(crate) fn put_list<T: Put>(out: &mut [u8], at: usize, items: &[T]) -> usize
     place
 }
 
-pub(crate) impl Put for Task as TaskPut {
+impl Put for Task as TaskPut {
     ghost bytes = { λ t. task-bytes (task-of t) };
 
     fn put(&self, out: &mut [u8], at: usize) -> usize {
@@ -74,7 +75,7 @@ pub(crate) impl Put for Task as TaskPut {
     }
 }
 
-pub(crate) impl Put for Segment as SegmentPut {
+impl Put for Segment as SegmentPut {
     ghost bytes = { λ s. segment-bytes (segment-of s) };
 
     fn put(&self, out: &mut [u8], at: usize) -> usize {
@@ -83,7 +84,7 @@ pub(crate) impl Put for Segment as SegmentPut {
     }
 }
 
-pub(crate) impl Put for Graph as GraphPut {
+impl Put for Graph as GraphPut {
     ghost bytes = { λ g. graph-bytes (graph-of g) };
 
     fn put(&self, out: &mut [u8], at: usize) -> usize {
@@ -103,7 +104,7 @@ pub fn graph_size(graph: &Graph) -> usize
 // Fills the first bytes of `out` with the graph's, and answers how many; or refuses, and writes nothing.
 pub fn write_graph(graph: &Graph, out: &mut [u8]) -> Result<usize, Fault>
     ensures answer { λ r. ⌜ Written (graph-bytes (graph-of (now (graph .entry)))) r (now (out .entry)) (now (out .exit)) ⌝ }
-    ensures reads_back { λ _. ⌜ reading (graph-bytes (graph-of (now (graph .entry)))) ≡ Ok (graph-of (now (graph .entry))) ⌝ }
+    ensures reads_back { λ r. ⌜ made r (λ n. reading (take n (now (out .exit))) ≡ Ok (graph-of (now (graph .entry)))) ⌝ }
 {
     let size = graph_size(graph);
     if out.len() < size {

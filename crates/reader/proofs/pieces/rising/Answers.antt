@@ -4,10 +4,11 @@ use mathlib.Core.Path.{ap, sym, _∙_}
 use Prim.Native.Nat.{_+_, _-_}
 use Rattle.std.proofs.shelf.Results.{err-from-errBy}
 use Rattle.std.specs.Of.Vec.{vec-items}
+use Rattle.model.proofs.Rising.{past-push}
 use Rattle.model.specs.Bytes.{several}
 use Rattle.model.specs.Lists.{past}
 use Rattle.model.specs.Reading.{next-rising}
-use Rattle.reader.proofs.Several.{several-more, several-fault, past-push}
+use Rattle.reader.proofs.Several.{several-more, several-fault}
 use Rattle.reader.proofs.pieces.rising.Needs as need
 
 pub returns-in-Break-n : need.returns-in-Break-n
@@ -22,6 +23,6 @@ loop-i-again c =
     let pushed = c .in-Continue-push .ensures tt .items in (
       several-more (next-rising (c .args .count) (c .args .over) (c .args .least) (c .args .top)) _ (c .args .many) (c .loop-i .-i) (vec-items (c .loop-i .numbers)) (c .loop-i .rest .now) (c .loop-i .inv .0) _ _ (c .loop-i-test .taken) one
           ∙ ap (λ done. several (next-rising (c .args .count) (c .args .over) (c .args .least) (c .args .top)) (c .args .many - (c .loop-i .-i + 1)) done (c .in-Continue-n .more .now)) (sym pushed),
-      sym (ap (past (c .args .least)) pushed ∙ past-push (c .args .least) (c .in-Continue-n .n) (vec-items (c .loop-i .numbers))),
+      sym (ap (past (c .args .least)) pushed ∙ past-push (c .args .least) (vec-items (c .loop-i .numbers)) (c .in-Continue-n .n)),
       search needs,
     )

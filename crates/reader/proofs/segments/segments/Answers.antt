@@ -2,17 +2,17 @@ use borrow.Author.Needs.{needs}
 use Prim.Native.Nat.{_+_, _-_}
 use native.Mathlib.Omega.{arith}
 use mathlib.Core.List.{map}
-use mathlib.Core.Path.{_≡_, ap, sym, _∙_}
+use mathlib.Core.Path.{_≡_, refl, ap, sym, _∙_}
 use lib.ListN.{length}
 use Rattle.std.proofs.shelf.Lists.{length-map, map-push}
 use Rattle.std.proofs.shelf.Results.{err-from-errBy}
 use Rattle.std.specs.Of.Vec.{vec-items}
+use Rattle.model.proofs.Along.{total-push}
 use Rattle.model.specs.Bytes.{several}
 use Rattle.model.specs.Graph.{predecessors-of, tasks-in, predecessors-in}
 use Rattle.model.specs.Reading.{numbered-segment, next-segment}
 use Rattle.graph.specs.Meaning.{task-of, segment-of}
 use Rattle.reader.proofs.Several.{several-more, several-fault, failed}
-use Rattle.reader.proofs.Totals.{tasks-in-push, predecessors-in-push}
 use Rattle.reader.proofs.segments.segments.Needs as need
 use Rattle.reader.proofs.segments.segments.Needs.{After-segment, at·returns-in-Break-segment, at·loop-own-again}
 
@@ -42,9 +42,9 @@ loop-own-again c =
     let s = c .in-Continue-segment .segment in
     let same = counted (need.at·loop-own-again c .After-segment) in
     let pushed = ap (map segment-of) (c .in-Continue-push .ensures tt .items) ∙ map-push segment-of (vec-items (c .loop-own .segments)) s in
-    let tasks = ap tasks-in pushed ∙ tasks-in-push done (segment-of s) in
+    let tasks = ap tasks-in pushed ∙ total-push (λ x. length (x .tasks)) tasks-in refl (λ _ _. refl) done (segment-of s) in
     let few = length-map (vec-items (s .tasks)) task-of in
-    let total = ap predecessors-in pushed ∙ predecessors-in-push done (segment-of s) in
+    let total = ap predecessors-in pushed ∙ total-push (λ x. predecessors-of (x .tasks)) predecessors-in refl (λ _ _. refl) done (segment-of s) in
     let spent = ap (λ ts. predecessors-of (map task-of ts)) (c .as-slice .ensures .value) in (
       several-more (next-segment (c .args .count) (c .args .many)) _ (c .args .many) (c .loop-own .own) done (c .loop-own .rest .now) (c .loop-own .inv .0) _ _ (c .loop-own-test .taken) (same ∙ c .in-Continue-segment .ensures tt)
           ∙ ap (λ ss. several (next-segment (c .args .count) (c .args .many)) (c .args .many - (c .loop-own .own + 1)) ss (c .in-Continue-segment .more .now)) (sym pushed),
