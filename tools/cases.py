@@ -3,10 +3,10 @@
 
 This is a reader of plan bytes written from docs/FORMAT.md and docs/REFUSALS.md alone, in another
 language than the product. It builds small plans number by number, damages each number in turn in every
-way that its kind allows, and prints either the cases (one to a line) or the answers, for the program
-`vectors` to be held to:
+way that its kind allows. The program `vectors` is held to its answers:
 
-    tools/cases.py cases      tools/cases.py answers
+    tools/cases.py cases      prints its cases, one to a line
+    tools/cases.py answer     answers the cases on standard input
 """
 import sys
 
@@ -203,14 +203,28 @@ def numbers():
         yield len(data), data
 
 
-def main():
-    want = sys.argv[1:]
-    if want not in (["cases"], ["answers"]):
-        sys.exit(__doc__)
+def cases():
     for at, data in numbers():
-        print(f"number {at} {data.hex() or '-'}" if want == ["cases"] else answer_number(at, data))
+        yield f"number {at} {data.hex() or '-'}"
     for data in plans():
-        print(f"plan {data.hex() or '-'}" if want == ["cases"] else answer_plan(data))
+        yield f"plan {data.hex() or '-'}"
+
+
+def answer(case):
+    words = case.split()
+    data = bytes.fromhex(words[-1].strip("-"))
+    return answer_number(int(words[1]), data) if words[0] == "number" else answer_plan(data)
+
+
+def main():
+    if sys.argv[1:] == ["cases"]:
+        lines = dict.fromkeys(cases())
+    elif sys.argv[1:] == ["answer"]:
+        lines = map(answer, sys.stdin)
+    else:
+        sys.exit(__doc__)
+    for line in lines:
+        print(line)
 
 
 if __name__ == "__main__":

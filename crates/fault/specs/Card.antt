@@ -45,9 +45,9 @@ card TrailingBytes = line 5 Plan any
 card NoEntry = line 6 Plan (from-to 1 31)
 -- too few cells, or too short a run; how many are needed
 card TooSmall = line 7 Plan (at-least 1)
--- the needed length is above the deadline; the needed length
+-- the needed length is above the deadline; the needed length, at most 256 tasks of 1,000,000 ticks
 card OverDeadline = line 8 Plan (from-to 1 256000000)
--- a ladder's count or one of its speeds; 0, or the level and one
+-- a ladder's count or one of its speeds; 0, or the level and one; no kind of ladder has more than 64 levels
 card LadderForm = line 9 Ladder (from-to 0 64)
 -- an end report while a start is due; the head's task
 card StartDue = line 10 Frame (from-to 0 255)
@@ -55,7 +55,7 @@ card StartDue = line 10 Frame (from-to 0 255)
 card NoStartDue = line 11 Frame (only 0)
 -- the core named is idle or not on the board; that core
 card CoreIdle = line 12 Frame any
--- a time below the clock; the clock
+-- a time below the clock; the clock, which is never past a deadline
 card BeforeClock = line 13 Frame (from-to 1 1000000000)
 -- a time above a promise; the core that promised the earliest
 card AfterPromise = line 14 Frame (from-to 0 7)

@@ -18,8 +18,11 @@ pub fn answer(heap: Global, line: &str) -> Result<String, AnyError> {
         let bytes = read_bytes(heap, words.next().unwrap_or(""))?;
         return answer_number(heap, bytes.as_slice(), at);
     }
-    let bytes = read_bytes(heap, words.next().unwrap_or(""))?;
-    answer_plan(heap, bytes.as_slice())
+    if kind == "plan" {
+        let bytes = read_bytes(heap, words.next().unwrap_or(""))?;
+        return answer_plan(heap, bytes.as_slice());
+    }
+    Err("neither a number nor a plan".into())
 }
 
 fn read_bytes(heap: Global, text: &str) -> Result<Vec<u8>, AnyError> {
