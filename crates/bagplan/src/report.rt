@@ -57,7 +57,10 @@ fn head(heap: Global, graph: &Graph) -> Result<String, AllocError>
     let cores = graph.cores;
     let deadline = graph.deadline;
     let segments = graph.segments.len();
-    format!(heap, "cores {cores} deadline {deadline} segments {segments}\n")
+    format!(
+        heap,
+        "cores {cores} deadline {deadline} segments {segments}\n"
+    )
 }
 
 fn segment_rows(heap: Global, segments: &[Segment]) -> Result<String, AllocError>

@@ -33,6 +33,12 @@ module _ {X : Type 0} where
   along-each ok done [] a = refl
   along-each ok done (x ∷ xs) a = and-from (ok done x) (each ok (done ++ (x ∷ [])) xs) (a .0) (along-each ok (done ++ (x ∷ [])) xs (a .1))
 
+-- one more at the end
+module _ {X : Type 0} (P : List X → X → Type 0) where
+  pub along-push : (done xs : List X) (x : X) → Along P done xs → P (done ++ xs) x → Along P done (xs ++ (x ∷ []))
+  along-push done [] x a p = (rw append-nil at p, tt)
+  along-push done (y ∷ ys) x a p = (a .0, along-push (done ++ (y ∷ [])) ys x (a .1) (rw append-assoc p))
+
 -- each by its place
 module _ {X : Type 0} (P : List X → X → Type 0) (d : X) where
   pub along-place : (done xs : List X) (i : ℕ) → Along P done xs → i < length xs → P (done ++ take i xs) (getD xs i d)

@@ -1,4 +1,5 @@
 pub mod Bytes
+pub mod Canonical
 pub mod Formed
 pub mod Graph
 pub mod Laws
@@ -6,4 +7,6 @@ pub mod Lists
 pub mod Numbers
 pub mod Places
 pub mod Reading
+pub mod ScheduleLaws
+pub mod Times
 pub mod Writing
