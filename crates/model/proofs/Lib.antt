@@ -4,7 +4,9 @@ pub mod Bests
 pub mod CardLaws
 pub mod Counted
 pub mod Ends
+pub mod EntryLaws
 pub mod Events
+pub mod FaultLaws
 pub mod First
 pub mod Fits
 pub mod GraphLaws
@@ -16,9 +18,12 @@ pub mod Members
 pub mod NumberLaws
 pub mod Passed
 pub mod PlaceLaws
+pub mod Readers
+pub mod Refused
 pub mod Rising
 pub mod ScheduleLaws
 pub mod Started
 pub mod Steady
+pub mod SteadyReading
 pub mod Taken
 pub mod Timetable

@@ -19,6 +19,12 @@ module _ {X Y G : Type 0} where
   then-ok (Ok p) f y e k = k (p .0) (p .1) refl e
   then-ok (Err d) f y e k = let z : _≡_ {A = ℕ} 0 1 = cc in absurd (omega arith)
 
+  -- the fault of what is read first, or of what is read after it
+  pub then-err : (r : Read X) (f : X → List ℕ → Result Y Fault) (d : Fault) → then r f ≡ Err d
+      → (r ≡ Err d → G) → ((x : X) (rest : List ℕ) → r ≡ Ok (x, rest) → f x rest ≡ Err d → G) → G
+  then-err (Ok p) f d e first second = second (p .0) (p .1) refl e
+  then-err (Err c) f d e first second = first (cc)
+
 module _ {Y : Type 0} where
   -- a test that was passed
   pub cond-ok : (b : Bool) (r : Result Y Fault) (d : Fault) (y : Y) → cond b r (Err d) ≡ Ok y → (b ≡ true) × (r ≡ Ok y)
@@ -27,6 +33,12 @@ module _ {Y : Type 0} where
 
   pub ok-is : (x y : Y) → _≡_ {A = Result Y Fault} (Ok x) (Ok y) → x ≡ y
   ok-is x y e = cc
+
+  pub err-is : (c d : Fault) → _≡_ {A = Result Y Fault} (Err c) (Err d) → c ≡ d
+  err-is c d e = cc
+
+  pub ok-not-err : {G : Type 0} (y : Y) (d : Fault) → _≡_ {A = Result Y Fault} (Ok y) (Err d) → G
+  ok-not-err y d e = let z : _≡_ {A = ℕ} 0 1 = cc in absurd (omega arith)
 
 -- things read by `item` and written by `bytes`: what is read fits, and takes its bytes
 module _ {X : Type 0} (item : List X → List ℕ → Read X) (bytes : X → List ℕ) (P : List X → X → Type 0)

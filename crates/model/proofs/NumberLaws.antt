@@ -78,6 +78,10 @@ unfolding number number-bytes
 numbers-read-back n count rest h =
     rw (digits-grouped 4 n rest (omega arith), digits-fewest 4 n, digits-value 4 n (omega arith), lt-ltb n 4294967296 h)
 
+pub number-grouped : (n : ℕ) (rest : List ℕ) → n < 4294967296 → groups (number-bytes n ++ rest) ≡ Some (number-bytes n, rest)
+unfolding number-bytes
+number-grouped n rest h = digits-grouped 4 n rest (omega arith)
+
 -- what is read as groups are groups, and the bytes after them follow
 pub grouped : (bs : List ℕ) (x : List ℕ × List ℕ) → groups bs ≡ Some x → (bs ≡ x .0 ++ x .1) × Grouped (x .0)
 grouped [] x e = let z : _≡_ {A = ℕ} 0 1 = cc in absurd (omega arith)
@@ -101,6 +105,22 @@ grouped (b ∷ bs) x e =
         let own = f y refl in
         let all : (b ∷ y .0, y .1) ≡ x = cc in
         rw (← all) (ap {B = List ℕ} (λ r. b ∷ r) (own .0), longer (y .0) l u (own .1))
+
+-- groups are read whatever follows, and where they are cut short there are none
+pub grouped-reads : (gs more : List ℕ) → Grouped gs → groups (gs ++ more) ≡ Some (gs, more)
+grouped-reads [] more g = absurd g
+grouped-reads (b ∷ []) more g = rw (lt-ltb b 128 g)
+grouped-reads (b ∷ (c ∷ cs)) more g = rw (le-ltb b 128 (g .0), lt-ltb b 256 (g .1), grouped-reads (c ∷ cs) more (g .2))
+
+pub grouped-cut : (gs : List ℕ) (k : ℕ) → Grouped gs → k < length gs → groups (take k gs) ≡ None
+grouped-cut [] k g h = absurd g
+grouped-cut (b ∷ bs) zero g h = refl
+grouped-cut (b ∷ []) (suc k) g h = absurd (omega arith)
+grouped-cut (b ∷ (c ∷ cs)) (suc k) g h = rw (le-ltb b 128 (g .0), lt-ltb b 256 (g .1), grouped-cut (c ∷ cs) k (g .2) (omega arith))
+
+pub grouped-some : (gs : List ℕ) → Grouped gs → 0 < length gs
+grouped-some [] g = absurd g
+grouped-some (b ∷ bs) g = omega arith
 
 -- groups that do not end in 0 are worth something
 grouped-value : (gs : List ℕ) (d : ℕ) → Grouped gs → 0 < last d gs → 0 < value gs

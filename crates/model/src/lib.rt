@@ -1,7 +1,7 @@
 // What the product means: graphs, their bytes and their schedules, and the laws over them. No code runs here.
 pub mod schedule;
 
-ghost use Rattle.model.specs.Laws.{Numbers-read-back, Numbers-take-their-bytes, Graphs-read-are-formed, Graphs-take-their-bytes, Graphs-read-back, Refusals-are-on-the-card, Plans-cut-short-end-inside, Bytes-after-a-plan-are-refused};
+ghost use Rattle.model.specs.Laws.{Numbers-read-back, Numbers-take-their-bytes, Graphs-read-are-formed, Graphs-take-their-bytes, Graphs-read-back, Refusals-are-on-the-card, Plans-cut-short-end-inside, Bytes-after-a-plan-are-refused, Faults-stand-at-their-numbers, No-entry-names-the-lowest};
 ghost use Rattle.model.specs.Places.{Well-formed-place-by-place, Place-by-place-well-formed};
 
 // A number written and read back is itself, and the bytes after it are untouched.
@@ -42,6 +42,16 @@ pub fn plans_cut_short_end_inside()
 // Bytes after a plan are refused at the first of them.
 pub fn bytes_after_a_plan_are_refused()
     ensures { λ _. ⌜ Bytes-after-a-plan-are-refused ⌝ }
+{}
+
+// A fault stands at its number: it is the first in byte order, and is known just when the number's last byte is.
+pub fn faults_stand_at_their_numbers()
+    ensures { λ _. ⌜ Faults-stand-at-their-numbers ⌝ }
+{}
+
+// Bytes are refused for want of an entry exactly where their numbers are those of a graph, at its lowest segment that is nobody's exit.
+pub fn no_entry_names_the_lowest()
+    ensures { λ _. ⌜ No-entry-names-the-lowest ⌝ }
 {}
 
 // A well-formed graph keeps every limit and order at every place.
