@@ -16,5 +16,5 @@ pub struct Graph {
     pub segments: Vec<Segment>,
     ghost formed: { well-formed (graph-with cores deadline (vec-items segments)) ≡ true },
     ghost counted: { vec-len segments < 2 ^ 32 },
-    ghost short: { length (graph-bytes (graph-with cores deadline (vec-items segments))) < 2 ^ 64 },
+    ghost size_counted: { length (graph-bytes (graph-with cores deadline (vec-items segments))) < 2 ^ 64 },
 }

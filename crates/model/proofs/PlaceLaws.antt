@@ -95,14 +95,14 @@ well-formed-place-by-place g e =
     record {
       some-core = cores .0;
       few-cores = cores .1;
-      near = deadline .1;
+      deadline-within = deadline .1;
       some-segment = count .0;
       few-segments = count .1;
       few-tasks = all .1;
       few-predecessors = all .2;
       some-task = λ s h. segment-is g n s h .0;
       short-name = λ s t h l. task-is g n s h t l .0;
-      short = λ s t h l. task-is g n s h t l .1;
+      worst-within = λ s t h l. task-is g n s h t l .1;
       predecessors-rise = λ s t i j h l. rising-rise (length (take t (tasks-of g s))) 0 (task-of g s t .predecessors) i j (predecessors-rising g n s h t l);
       lower = λ s t i h l k. omega (arith, rising-bounds (length (take t (tasks-of g s))) 0 (task-of g s t .predecessors) i (predecessors-rising g n s h t l) k, before-t g n s h t l);
       few-exits = λ s h. segment-is g n s h .2;
@@ -117,7 +117,7 @@ module _ (g : Graph) (f : Formed g) where
   task-well : (s t : ℕ) → s < length (g .segments) → t < length (tasks-of g s) → task-formed (take t (tasks-of g s)) (task-of g s t) ≡ true
   task-well s t h l =
       let before = length-take-le t (tasks-of g s) (omega arith) in
-      task-from (take t (tasks-of g s)) (task-of g s t) (f .short-name s t h l) (f .short s t h l)
+      task-from (take t (tasks-of g s)) (task-of g s t) (f .short-name s t h l) (f .worst-within s t h l)
       (rising-each 0 (length (take t (tasks-of g s))) [] (task-of g s t .predecessors)
       (rising-from-places (length (take t (tasks-of g s))) 0 (task-of g s t .predecessors) (λ i k. (omega arith, omega (arith, f .lower s t i h l k))) (λ i j. f .predecessors-rise s t i j h l)))
 
@@ -136,7 +136,7 @@ place-by-place-well-formed g f =
     let formed = along-each (segment-formed (length ss)) [] ss (along-from-places (λ d x. segment-formed (length ss) d x ≡ true) no-segment [] ss (segment-well g f)) in
     numbered-formed g (
       within-from 1 8 (g .cores) (f .some-core) (f .few-cores),
-      within-from 0 1000000000 (g .deadline) (omega arith) (f .near),
+      within-from 0 1000000000 (g .deadline) (omega arith) (f .deadline-within),
       within-from 1 32 (length ss) (f .some-segment) (f .few-segments),
       segments-fit (length ss) ss formed (f .few-tasks) (f .few-predecessors),
     )

@@ -3,6 +3,7 @@ pub mod Canonical
 pub mod Formed
 pub mod Graph
 pub mod Laws
+pub mod Limits
 pub mod Lists
 pub mod Numbers
 pub mod Places

@@ -6,6 +6,7 @@ use mathlib.Core.Path.{_≡_}
 use lib.ListN.{length, getD}
 use Rattle.model.specs.Formed.{well-formed}
 use Rattle.model.specs.Graph.{Graph, Segment, Task, tasks-in, predecessors-in}
+use Rattle.model.specs.Limits.{most-cores, most-deadline, most-segments, most-tasks, most-predecessors, most-exits, most-name, most-worst}
 
 -- what stands where there is no task, and where there is no segment
 abbrev pub no-task : Task
@@ -35,21 +36,21 @@ module _ (g : Graph) where
 
   pub record Formed : Type 0 where
     pub some-core : 1 ≤ g .cores
-    pub few-cores : g .cores ≤ 8
-    pub near : g .deadline ≤ 1000000000
+    pub few-cores : g .cores ≤ most-cores
+    pub deadline-within : g .deadline ≤ most-deadline
     pub some-segment : 1 ≤ count
-    pub few-segments : count ≤ 32
-    pub few-tasks : tasks-in (g .segments) ≤ 256
-    pub few-predecessors : predecessors-in (g .segments) ≤ 1024
+    pub few-segments : count ≤ most-segments
+    pub few-tasks : tasks-in (g .segments) ≤ most-tasks
+    pub few-predecessors : predecessors-in (g .segments) ≤ most-predecessors
     pub some-task : (s : ℕ) → s < count → 1 ≤ length (tasks-of s)
-    pub short-name : (s t : ℕ) → s < count → t < length (tasks-of s) → length (task-of s t .name) ≤ 16
-    pub short : (s t : ℕ) → s < count → t < length (tasks-of s) → task-of s t .worst ≤ 1000000
+    pub short-name : (s t : ℕ) → s < count → t < length (tasks-of s) → length (task-of s t .name) ≤ most-name
+    pub worst-within : (s t : ℕ) → s < count → t < length (tasks-of s) → task-of s t .worst ≤ most-worst
     -- predecessors rise, and are lower tasks
     pub predecessors-rise : (s t i j : ℕ) → s < count → t < length (tasks-of s) → i < j → j < length (task-of s t .predecessors)
         → getD (task-of s t .predecessors) i 0 < getD (task-of s t .predecessors) j 0
     pub lower : (s t i : ℕ) → s < count → t < length (tasks-of s) → i < length (task-of s t .predecessors) → getD (task-of s t .predecessors) i 0 < t
     -- exits rise, and are higher segments of the plan
-    pub few-exits : (s : ℕ) → s < count → length (exits-of s) ≤ 31
+    pub few-exits : (s : ℕ) → s < count → length (exits-of s) ≤ most-exits
     pub exits-rise : (s i j : ℕ) → s < count → i < j → j < length (exits-of s) → getD (exits-of s) i 0 < getD (exits-of s) j 0
     pub higher : (s i : ℕ) → s < count → i < length (exits-of s) → s < getD (exits-of s) i 0
     pub inside : (s i : ℕ) → s < count → i < length (exits-of s) → getD (exits-of s) i 0 < count

@@ -13,6 +13,7 @@ use Rattle.fault.specs.Card.{fault}
 use Rattle.model.specs.Bytes.{Read, then, at, string, several}
 use Rattle.model.specs.Formed.{within}
 use Rattle.model.specs.Graph.{Graph, Segment, Task, predecessors-of, tasks-in, predecessors-in, entered}
+use Rattle.model.specs.Limits.{most-cores, most-deadline, most-segments, most-tasks, most-predecessors, most-exits, most-name, most-worst}
 use Rattle.model.specs.Lists.{past}
 use Rattle.model.specs.Numbers.{number}
 
@@ -33,9 +34,9 @@ module _ (count : ℕ) where
   -- the task of number `own` in its segment, where the plan may have `left` predecessors more
   abbrev pub numbered-task : ℕ → ℕ → List ℕ → Read Task
   numbered-task own left bs =
-      then (ranged 0 16 bs) (λ size after-size.
+      then (ranged 0 most-name bs) (λ size after-size.
       then (string count size after-size) (λ name after-name.
-      then (ranged 0 1000000 after-name) (λ worst after-worst.
+      then (ranged 0 most-worst after-name) (λ worst after-worst.
       then (ranged 0 left after-worst) (λ many after-many.
       then (several (next-rising NotRising 0 own) many [] after-many) (λ predecessors rest.
       Ok (record { name = name; worst = worst; predecessors = predecessors }, rest))))))
@@ -49,21 +50,21 @@ module _ (count : ℕ) where
   numbered-segment segments own tasks-left left bs =
       then (ranged 1 tasks-left bs) (λ many after-many.
       then (several (next-task left) many [] after-many) (λ tasks after-tasks.
-      then (ranged 0 31 after-tasks) (λ ways after-ways.
+      then (ranged 0 most-exits after-tasks) (λ ways after-ways.
       then (several (next-rising OutOfRange (own + 1) segments) ways [] after-ways) (λ exits rest.
       Ok (record { tasks = tasks; exits = exits }, rest)))))
 
-  -- a segment, told those before it: a plan has at most 256 tasks and 1,024 predecessors in all
+  -- a segment, told those before it: tasks and predecessors are limited for the whole plan
   abbrev pub next-segment : ℕ → List Segment → List ℕ → Read Segment
   next-segment segments before =
-      numbered-segment segments (length before) (256 - tasks-in before) (1024 - predecessors-in before)
+      numbered-segment segments (length before) (most-tasks - tasks-in before) (most-predecessors - predecessors-in before)
 
   -- the numbers of a graph
   abbrev pub numbers : List ℕ → Read Graph
   numbers bs =
-      then (ranged 1 8 bs) (λ cores after-cores.
-      then (ranged 0 1000000000 after-cores) (λ deadline after-deadline.
-      then (ranged 1 32 after-deadline) (λ many after-many.
+      then (ranged 1 most-cores bs) (λ cores after-cores.
+      then (ranged 0 most-deadline after-cores) (λ deadline after-deadline.
+      then (ranged 1 most-segments after-deadline) (λ many after-many.
       then (several (next-segment many) many [] after-many) (λ segments rest.
       Ok (record { cores = cores; deadline = deadline; segments = segments }, rest)))))
 

@@ -1,5 +1,6 @@
 // The reader of plan bytes.
 mod entries;
+mod limits;
 mod pieces;
 mod plan;
 mod segments;

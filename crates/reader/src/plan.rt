@@ -8,6 +8,9 @@ ghost use Rattle.graph.specs.Whole.{graph-of};
 ghost use Rattle.reader.specs.Answers.{Answers, Refuses};
 use crate::entries::entries;
 use crate::entries::nothing_left;
+use crate::limits::MOST_CORES;
+use crate::limits::MOST_DEADLINE;
+use crate::limits::MOST_SEGMENTS;
 use crate::pieces::ranged;
 use crate::segments::segments;
 use fault::Error;
@@ -20,9 +23,9 @@ fn whole(heap: Global, bytes: &[u8]) -> Result<Graph, Error>
     ensures { λ r. ⌜ Answers graph-of r (reading (now (bytes .entry))) ⌝ }
 {
     let count = bytes.len();
-    let (cores, rest) = ranged(count, bytes, 1, 8)?;
-    let (deadline, rest) = ranged(count, rest, 0, 1_000_000_000)?;
-    let (many, rest) = ranged(count, rest, 1, 32)?;
+    let (cores, rest) = ranged(count, bytes, 1, MOST_CORES)?;
+    let (deadline, rest) = ranged(count, rest, 0, MOST_DEADLINE)?;
+    let (many, rest) = ranged(count, rest, 1, MOST_SEGMENTS)?;
     let (segments, rest) = segments(heap, count, rest, many)?;
     nothing_left(count, rest)?;
     entries(segments.as_slice(), many)?;

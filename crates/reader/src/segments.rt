@@ -7,6 +7,9 @@ ghost use Rattle.model.specs.Bytes.{several};
 ghost use Rattle.model.specs.Reading.{numbered-segment, next-segment};
 ghost use Rattle.graph.specs.Meaning.{segment-of};
 ghost use Rattle.reader.specs.Answers.{Reads};
+use crate::limits::MOST_EXITS;
+use crate::limits::MOST_PREDECESSORS;
+use crate::limits::MOST_TASKS;
 use crate::pieces::ranged;
 use crate::pieces::rising;
 use crate::tasks::left_after;
@@ -33,8 +36,16 @@ fn segment<'a>(
 {
     let (many, rest) = ranged(count, bytes, 1, tasks_left)?;
     let (tasks, rest) = tasks(heap, count, rest, many, left)?;
-    let (ways, rest) = ranged(count, rest, 0, 31)?;
-    let (exits, rest) = rising(heap, count, rest, ways, own + 1, segments, Kind::OutOfRange)?;
+    let (exit_count, rest) = ranged(count, rest, 0, MOST_EXITS)?;
+    let (exits, rest) = rising(
+        heap,
+        count,
+        rest,
+        exit_count,
+        own + 1,
+        segments,
+        Kind::OutOfRange,
+    )?;
     Ok((Segment { tasks, exits }, rest))
 }
 
@@ -50,8 +61,8 @@ pub(crate) fn segments<'a>(
 {
     let mut segments = Vec::new(heap);
     let mut rest = bytes;
-    let mut tasks_left = 256;
-    let mut left = 1024;
+    let mut tasks_left = MOST_TASKS;
+    let mut left = MOST_PREDECESSORS;
     for own in 0..many {
         let (segment, more) = segment(heap, count, rest, many, own, tasks_left, left)?;
         tasks_left = tasks_left.saturating_sub(segment.tasks.len());

@@ -8,6 +8,8 @@ ghost use Rattle.model.specs.Graph.{predecessors-of};
 ghost use Rattle.model.specs.Reading.{numbered-task, next-task};
 ghost use Rattle.graph.specs.Meaning.{task-of};
 ghost use Rattle.reader.specs.Answers.{Reads};
+use crate::limits::MOST_NAME;
+use crate::limits::MOST_WORST;
 use crate::pieces::name;
 use crate::pieces::ranged;
 use crate::pieces::rising;
@@ -28,9 +30,9 @@ fn task<'a>(
 ) -> Result<(Task, &'a [u8]), Error>
     ensures { λ r. ⌜ Reads task-of r (numbered-task count own left (now (bytes .entry))) ⌝ }
 {
-    let (size, rest) = ranged(count, bytes, 0, 16)?;
+    let (size, rest) = ranged(count, bytes, 0, MOST_NAME)?;
     let (name, rest) = name(heap, count, rest, size)?;
-    let (worst, rest) = ranged(count, rest, 0, 1_000_000)?;
+    let (worst, rest) = ranged(count, rest, 0, MOST_WORST)?;
     let (many, rest) = ranged(count, rest, 0, left)?;
     let (predecessors, rest) = rising(heap, count, rest, many, 0, own, Kind::NotRising)?;
     Ok((
