@@ -11,7 +11,7 @@ use Rattle.queue.specs.Ordered.{Ordered}
 use Rattle.queue.specs.declared.cells.Queue.{Queue}
 
 pub record Taken {E : Type 0} (before : E → E → Bool) (e : E) (q q′ : Queue E) : Type 0 where
-  -- it held the entry, and what it holds now
+  -- it held the entry and what it holds now, and nothing else
   pub holds : Shuffled (held q) (e ∷ held q′)
   pub counts : count q ≡ count q′ + 1
   -- where it was in order, nothing that it held comes before the entry

@@ -79,6 +79,50 @@ mod tests {
     }
 
     #[test]
+    fn equal_entries_and_the_lower_task() -> Result<(), Fail> {
+        let mut cells = [running(0, 0, 0); 4];
+        let mut queue = Queue::new(&mut cells);
+        queue.put(running(5, 2, 9))?;
+        queue.put(running(5, 2, 8))?;
+        queue.put(running(5, 2, 9))?;
+        check_eq(queue.take(), Some(running(5, 2, 8)))?;
+        check_eq(queue.take(), Some(running(5, 2, 9)))?;
+        check_eq(queue.take(), Some(running(5, 2, 9)))?;
+        check_eq(queue.into_cells().len(), 4)
+    }
+
+    #[test]
+    fn sorts_many() -> Result<(), Fail> {
+        let mut items = [
+            ready(1, 0),
+            ready(2, 0),
+            ready(3, 0),
+            ready(4, 0),
+            ready(5, 0),
+            ready(6, 0),
+            ready(7, 0),
+        ];
+        let mut cells = [ready(0, 0); 9];
+        sort(&mut items, &mut cells)?;
+        check_eq(
+            items,
+            [
+                ready(7, 0),
+                ready(6, 0),
+                ready(5, 0),
+                ready(4, 0),
+                ready(3, 0),
+                ready(2, 0),
+                ready(1, 0),
+            ],
+        )?;
+        check_eq(cells[8], ready(0, 0))?;
+        let mut none: [Ready; 0] = [];
+        sort(&mut none, &mut cells)?;
+        check_eq(none.len(), 0)
+    }
+
+    #[test]
     fn sorts() -> Result<(), Fail> {
         let mut items = [ready(2, 1), ready(4, 2), ready(2, 0)];
         let mut cells = [ready(0, 0); 3];
