@@ -1,0 +1,5 @@
+pub mod Due
+pub mod Largest
+pub mod Launch
+pub mod Reading
+pub mod Unless

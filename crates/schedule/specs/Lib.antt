@@ -1,0 +1,5 @@
+pub mod Answer
+pub mod Meaning
+pub mod Started
+pub mod Stands
+pub mod Vecs

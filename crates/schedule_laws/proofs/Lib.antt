@@ -1,0 +1,13 @@
+pub mod Beginning
+pub mod Bounding
+pub mod Choosing
+pub mod Ending
+pub mod Entries
+pub mod Events
+pub mod Following
+pub mod Members
+pub mod Passing
+pub mod Releasing
+pub mod Rooms
+pub mod Starting
+pub mod Waiting
