@@ -21,7 +21,7 @@ impl<'c, E: Entry> Queue<'c, E> {
     // An empty queue over the cells.
     pub fn new(cells: &'c mut [E]) -> Queue<'c, E>
         ensures empty { Empty result }
-        ensures ordered { Ordered before result }
+        ensures ordered { Ordered E.before result }
         ensures cells { cells_of result ≡ cells.old }
         ensures same { result.cells.ghost_name ≡ cells.entry.ghost_name }
     {
@@ -39,7 +39,7 @@ impl<'c, E: Entry> Queue<'c, E> {
     pub fn put(&mut self, e: E) -> Result<(), Fault>
         ensures same { self.new.cells.ghost_name ≡ self.old.cells.ghost_name }
         ensures cases { MatchResult result
-            (λ _. Put before e self.old self.new)
+            (λ _. Put E.before e self.old self.new)
             (λ f. Full self.old f × (self.new ≡ self.old)) }
     {
         let count = self.count();
@@ -60,7 +60,7 @@ impl<'c, E: Entry> Queue<'c, E> {
         ensures same { self.new.cells.ghost_name ≡ self.old.cells.ghost_name }
         ensures cases { MatchOption result
             (Empty self.old × (self.new ≡ self.old))
-            (λ e. Taken before e self.old self.new) }
+            (λ e. Taken E.before e self.old self.new) }
     {
         let count = self.count();
         if count == 0 {
