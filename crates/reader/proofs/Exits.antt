@@ -1,5 +1,5 @@
 -- Looking for a segment among the exits.
-use Rattle.std.proofs.Common.{◌≡◌, ℕ, suc, ◌+◌, ◌-◌, ◌<◌, Bool, cond, ◌||◌, eqb, List, ◌∷◌, map, length, get_or, drop, Err, vec_items, Decides, sym, refl, ap, ◌∙◌, arith}
+use Rattle.std.proofs.Common.{◌≡◌, ℕ, suc, ◌+◌, ◌-◌, ◌<◌, Bool, cond, ◌||◌, eqb, List, ◌∷◌, map, length, get_or, drop, Err, vec_items, sym, refl, ap, ◌∙◌, arith}
 use Rattle.std.proofs.lemmas.List.Elements.{contains_decides}
 use Rattle.std.proofs.lemmas.List.{at_drop_more}
 use Rattle.std.proofs.lemmas.Bool.Decides.{Decides-eqb, Decides-like, Decides-by_or, same_from_decides}
@@ -13,7 +13,7 @@ use Rattle.graph.specs.Meaning.{segment_of}
 use Rattle.graph.specs.declared.parts.Segment.{Segment}
 
 -- what `contains` answers
-pub contains_has : (xs : List ℕ) (x : ℕ) (r : Bool) → IsAnyAnswer (λ y t. Decides t (y ≡ x)) xs r → r ≡ has xs x
+pub contains_has : (xs : List ℕ) (x : ℕ) (r : Bool) → IsAnyAnswer (λ y t. eqb y x ≡ t) xs r → r ≡ has xs x
 contains_has xs x r found =
     same_from_decides r (has xs x) (contains_decides eqb Decides-eqb xs x r found)
     (Decides-by_or (λ y. eqb x y) (λ y. y ≡ x) (λ ys. has ys x) (λ y. Decides-like (eqb x y) sym sym (Decides-eqb x y)) refl (λ _ _. refl) xs)

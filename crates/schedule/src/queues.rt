@@ -8,7 +8,7 @@ use queue::{Entry, Queue};
 pub(crate) fn put<E: Entry>(queue: &mut Queue<'_, E>, entry: E)
     requires { count queue.old < length (cells_of queue.old) }
     ensures same { queue.new.cells.ghost_name ≡ queue.old.cells.ghost_name }
-    ensures put { Put before entry queue.old queue.new }
+    ensures put { Put E.before entry queue.old queue.new }
 {
     match queue.put(entry) {
         Ok(()) => {}

@@ -12,7 +12,7 @@ const MOST_SPEED: u64 = 10000;
 
 // Whether a ladder of a kind can have these speeds.
 pub(crate) fn check<K: Ladder, A: Asked>(asked: &A) -> Result<(), Fault>
-    ensures answer { meant (λ _. A.Asked.speeds asked.now) result ≡ making most (A.Asked.speeds asked.now) }
+    ensures answer { meant (λ _. A.Asked.speeds asked.now) result ≡ making K.most (A.Asked.speeds asked.now) }
     ensures carries { Refuses result OnCard }
 {
     let count = asked.count();

@@ -7,8 +7,8 @@ use crate::times::scaled;
 
 // The lowest level whose speed is at least this one, as full speed is.
 fn lowest_level<L: Ladder>(ladder: &L, least: u64) -> usize
-    requires { least ≤ full (speeds ladder.now) }
-    ensures { FirstEnough (speeds ladder.now) least result }
+    requires { least ≤ full (L.speeds ladder.now) }
+    ensures { FirstEnough (L.speeds ladder.now) least result }
 {
     let mut low = 0;
     let mut high = ladder.count() - 1;
@@ -25,8 +25,8 @@ fn lowest_level<L: Ladder>(ladder: &L, least: u64) -> usize
 
 // The lowest level at which the work takes at most the window; none where it does not fit even at full speed.
 pub fn floor_for<L: Ladder>(ladder: &L, work: u32, window: u64) -> Option<usize>
-    ensures answer { result ≡ floor (speeds ladder.now) work window }
-    ensures parts { Parts (speeds ladder.now) work window result }
+    ensures answer { result ≡ floor (L.speeds ladder.now) work window }
+    ensures parts { Parts (L.speeds ladder.now) work window result }
 {
     if window < u64::from(work) {
         return None;

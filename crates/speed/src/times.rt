@@ -6,7 +6,7 @@ use crate::ladder::Ladder;
 
 // The last speed of a ladder.
 pub fn full_speed<L: Ladder>(ladder: &L) -> u32
-    ensures { result ≡ full (speeds ladder.now) }
+    ensures { result ≡ full (L.speeds ladder.now) }
 {
     ladder.speed(ladder.count() - 1)
 }
@@ -15,7 +15,7 @@ pub fn full_speed<L: Ladder>(ladder: &L) -> u32
 // in a window.
 pub(crate) fn scaled<L: Ladder>(ladder: &L, work: u32, by: u64) -> u64
     requires { 1 ≤ by }
-    ensures { result ≡ takes (speeds ladder.now) work by }
+    ensures { result ≡ takes (L.speeds ladder.now) work by }
 {
     let product = u64::from(work) * u64::from(full_speed(ladder));
     product.div_ceil(by)
@@ -23,7 +23,7 @@ pub(crate) fn scaled<L: Ladder>(ladder: &L, work: u32, by: u64) -> u64
 
 // How many ticks the work takes at a level, none beyond the last.
 pub fn time_at<L: Ladder>(ladder: &L, work: u32, level: usize) -> Option<u64>
-    ensures { result ≡ time_at (speeds ladder.now) work level }
+    ensures { result ≡ time_at (L.speeds ladder.now) work level }
 {
     if level >= ladder.count() {
         return None;

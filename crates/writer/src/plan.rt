@@ -45,8 +45,8 @@ impl Put for u32 {
 
 // How many, and then each.
 fn put_list<T: Put>(out: &mut [u8], at: usize, items: &[T]) -> usize
-    requires { (length items.now < 2 ^ 32) × (Countable at (listed bytes items.now)) }
-    ensures { Laid (listed bytes items.now) at out.old result out.new }
+    requires { (length items.now < 2 ^ 32) × (Countable at (listed T.bytes items.now)) }
+    ensures { Laid (listed T.bytes items.now) at out.old result out.new }
 {
     let count = items.len() as u32;
     let mut place = count.put(out, at);

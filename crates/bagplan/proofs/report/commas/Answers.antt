@@ -8,7 +8,7 @@ pub loop-number-preserved : goal.loop-number-preserved
 loop-number-preserved c =
     text_more (λ i ns. more_numbers ns) (take (length c.args.numbers.now - 1) (drop 1 c.args.numbers.now)) c.loop-number.number-index (string_bytes c.loop-number.text) _ c.loop-number.invariant
     (get_or (take (length c.args.numbers.now - 1) (drop 1 c.args.numbers.now)) c.loop-number.number-index 0) _ _ c.loop-number-test.true (search rules) refl
-    (c.in-ok-push-str.ensures.bytes ∙ ap (λ l. string_bytes c.loop-number.text ++ l) (c.as-str.ensures.value ∙ c.in-ok-next.ensures.ok))
+    (c.in_ok-push_str.ensures.bytes ∙ ap (λ l. string_bytes c.loop-number.text ++ l) (c.as_str.ensures.value ∙ c.in_ok-next.ensures.ok))
 
 pub returns : goal.returns
 returns c =

@@ -9,8 +9,8 @@ pub loop-s-preserved : goal.loop-s-preserved
 loop-s-preserved c =
     text_more (λ s xs. segments_text s (map segment_of xs)) c.args.segments.now c.loop-s.s (string_bytes c.loop-s.text) _ c.loop-s.invariant
     c.index-segments-s.result (rows_text c.loop-s.s 0 (map task_of (vec_items c.index-segments-s.result.tasks))) _ c.loop-s-test.true c.index-segments-s.is refl
-    (c.in-ok-push-str.ensures.bytes
-    ∙ ap (λ l. string_bytes c.loop-s.text ++ l) (c.as-str.ensures.value ∙ (c.in-ok-rows.ensures ∙ (ap (λ ts. rows_text c.loop-s.s 0 (map task_of ts)) c.as-slice.ensures.value ∙ ap (λ (x : Segment). rows_text c.loop-s.s 0 (map task_of (vec_items x.tasks))) (sym c.index-segments-s.is)))))
+    (c.in_ok-push_str.ensures.bytes
+    ∙ ap (λ l. string_bytes c.loop-s.text ++ l) (c.as_str.ensures.value ∙ (c.in_ok-rows.ensures ∙ (ap (λ ts. rows_text c.loop-s.s 0 (map task_of ts)) c.as_slice.ensures.value ∙ ap (λ (x : Segment). rows_text c.loop-s.s 0 (map task_of (vec_items x.tasks))) (sym c.index-segments-s.is)))))
 
 pub returns : goal.returns
 returns c = text_all (λ s xs. segments_text s (map segment_of xs)) c.args.segments.now c.loop-s.s (string_bytes c.loop-s.text) _ c.loop-s.invariant c.loop-s-test.false refl

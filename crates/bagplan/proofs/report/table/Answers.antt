@@ -6,9 +6,9 @@ use Rattle.bagplan.proofs.report.table.Goals as goal
 
 pub returns : goal.returns
 returns c =
-    let rows = c.as-str.ensures.value ∙ (c.in-ok-all.ensures ∙ ap (λ ss. segments_text 0 (map segment_of ss)) c.as-slice.ensures.value) in
-    let head = c.in-ok-push-str.ensures.bytes ∙ ap (λ l. l ++ codes "segment task worst predecessors\n") c.in-ok-text.ensures in
-    c.in-ok-push-str-2.ensures.bytes
-    ∙ (ap (λ l. string_bytes c.push-str.new.self ++ l) rows
+    let rows = c.as_str.ensures.value ∙ (c.in_ok-all.ensures ∙ ap (λ ss. segments_text 0 (map segment_of ss)) c.as_slice.ensures.value) in
+    let head = c.in_ok-push_str.ensures.bytes ∙ ap (λ l. l ++ codes "segment task worst predecessors\n") c.in_ok-text.ensures in
+    c.in_ok-push_str-2.ensures.bytes
+    ∙ (ap (λ l. string_bytes c.push_str.new.self ++ l) rows
     ∙ (ap (λ l. l ++ segments_text 0 (graph_of c.args.graph.now).segments) head
     ∙ append_assoc (head_text (graph_of c.args.graph.now)) (codes "segment task worst predecessors\n") (segments_text 0 (graph_of c.args.graph.now).segments)))

@@ -8,5 +8,5 @@ loop-rest-init c = cc (onto_none (bytes_of c.args.text.now))
 
 pub loop-rest-preserved : goal.loop-rest-preserved
 loop-rest-preserved c =
-    rw c.in-ok-push.ensures.items
+    rw c.in_ok-push.ensures.items
     (pair_more (vec_items c.loop-rest.bytes) c.in-Some.byte c.loop-rest.rest.now (search rules) c.in-Some.ensures ∙ c.loop-rest.invariant)

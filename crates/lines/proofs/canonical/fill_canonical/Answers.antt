@@ -14,16 +14,16 @@ use Rattle.schedule.specs.Meaning.{start_of}
 use Rattle.lines.specs.Meaning.{line_of}
 use Rattle.lines.proofs.Tables.{turn, timelines_counted, inside, lines_read, starts_counted, starts_known}
 use Rattle.lines.proofs.canonical.fill_canonical.Goals as goal
-use Rattle.lines.proofs.canonical.fill_canonical.Goals.{After-as-slice, at·fill-segment-place-requires, at·loop-number-again}
+use Rattle.lines.proofs.canonical.fill_canonical.Goals.{After-as_slice}
 
-low : (c : goal.After-as-slice) → c.loop-number.number < length (vec_items c.args.plan.now.timelines)
+low : (c : goal.After-as_slice) → c.loop-number.number < length (vec_items c.args.plan.now.timelines)
 low c = omega (arith, c.loop-number-test.true, ap length c.deref-timeline-items.ensures.value)
 
-is : (c : goal.After-as-slice) → c.timeline-item.result ≡ get_or (vec_items c.args.plan.now.timelines) c.loop-number.number c.timeline-item.result
+is : (c : goal.After-as_slice) → c.timeline-item.result ≡ get_or (vec_items c.args.plan.now.timelines) c.loop-number.number c.timeline-item.result
 is c = c.timeline-item.is ∙ ap (λ l. get_or l c.loop-number.number c.timeline-item.result) c.deref-timeline-items.ensures.value
 
 -- the segment that is read
-read : (c : goal.After-as-slice) → segment (graph_of c.args.plan.now.graph) c.loop-number.number ≡ segment_of c.index-segment.result.now
+read : (c : goal.After-as_slice) → segment (graph_of c.args.plan.now.graph) c.loop-number.number ≡ segment_of c.index-segment.result.now
 read c =
     let p = c.args.plan.now in
     let items = vec_items p.graph.segments in
@@ -36,14 +36,14 @@ index-segment-requires c =
     let p = c.args.plan.now in
     omega (arith, c.loop-number-test.true, ap length c.deref-timeline-items.ensures.value, timelines_counted p, length-map (vec_items p.graph.segments) segment_of, p.graph.segments.ok.0)
 
-pub fill-segment-place-requires : goal.fill-segment-place-requires
-fill-segment-place-requires c =
+pub fill_segment-place-requires : goal.fill_segment-place-requires
+fill_segment-place-requires c =
     let p = c.args.plan.now in
     let g = graph_of p.graph in
     let i = c.loop-number.number in
     let t = c.timeline-item.result in
-    let a = (goal.at.fill-segment-place-requires c).After-as-slice in
-    let value = c.as-slice.ensures.value in
+    let a = (goal.at.fill_segment-place-requires c).After-as_slice in
+    let value = c.as_slice.ensures.value in
     let f = canonical_segment_lines g in
     let long = ap length (turn g i (inside p i t (low a) (is a))) in
     let parts = length-append (f i) (flat_map f (drop (i + 1) (range_with_len 0 (count g)))) in record {
@@ -59,13 +59,13 @@ loop-number-preserved c =
     let g = graph_of p.graph in
     let i = c.loop-number.number in
     let t = c.timeline-item.result in
-    let a = (goal.at.loop-number-preserved c).After-as-slice in
+    let a = (goal.at.loop-number-preserved c).After-as_slice in
     let f = canonical_segment_lines g in
     let run = map line_of c.loop-number.out in
-    let after = map line_of c.fill-segment-place.new.out in
-    let lines = ap (λ s. lines_from s i 0 (map start_of c.as-slice.result.now)) (sym (read a))
-    ∙ ap (λ l. lines_from (segment g i) i 0 (map start_of l)) c.as-slice.ensures.value ∙ lines_read p i t (low a) (is a) in
-    let one = subst (λ l. Laid l c.loop-number.place run c.fill-segment-place.result after) lines c.fill-segment-place.ensures in
+    let after = map line_of c.fill_segment-place.new.out in
+    let lines = ap (λ s. lines_from s i 0 (map start_of c.as_slice.result.now)) (sym (read a))
+    ∙ ap (λ l. lines_from (segment g i) i 0 (map start_of l)) c.as_slice.ensures.value ∙ lines_read p i t (low a) (is a) in
+    let one = subst (λ l. Laid l c.loop-number.place run c.fill_segment-place.result after) lines c.fill_segment-place.ensures in
     laid_more (f i) (flat_map f (drop (i + 1) (range_with_len 0 (count g)))) (flat_map f (drop i (range_with_len 0 (count g)))) c.loop-number.place run _ _ (turn g i (inside p i t (low a) (is a))) c.loop-number.invariant.0 c.loop-number.invariant.1 _ _ one
 
 pub returns : goal.returns

@@ -14,7 +14,7 @@ use Rattle.schedule.specs.declared.parts.Start.{Start}
 use Rattle.lines.specs.Meaning.{line_of}
 use Rattle.lines.specs.declared.record.Line.{Line}
 use Rattle.lines.proofs.canonical.fill_segment.Goals as goal
-use Rattle.lines.proofs.canonical.fill_segment.Goals.{In-loop-order, After-from, at·After-from, at·index-requires, at·add-out, at·loop-order-again}
+use Rattle.lines.proofs.canonical.fill_segment.Goals.{In-loop-order, After-from}
 
 abbrev none : Start
 none = record { task = 0; at = 0; core = 0 }
@@ -39,8 +39,8 @@ worst c =
 pub index-requires : goal.index-requires
 index-requires c = omega (arith, (known (goal.at.index-requires c).In-loop-order).0, length-tasks c.args.segment.now)
 
-pub overflow-add-out : goal.overflow-add-out
-overflow-add-out c = omega (arith, (known (goal.at.overflow-add-out c).In-loop-order).1, worst (goal.at.overflow-add-out c).After-from)
+pub overflow_add-out : goal.overflow_add-out
+overflow_add-out c = omega (arith, (known (goal.at.overflow_add-out c).In-loop-order).1, worst (goal.at.overflow_add-out c).After-from)
 
 pub loop-order-preserved : goal.loop-order-preserved
 loop-order-preserved c =

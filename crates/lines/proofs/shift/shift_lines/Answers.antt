@@ -8,7 +8,7 @@ use Rattle.model.specs.Times.{shift}
 use Rattle.lines.specs.Meaning.{line_of}
 use Rattle.lines.specs.declared.record.Line.{Line}
 use Rattle.lines.proofs.shift.shift_lines.Goals as goal
-use Rattle.lines.proofs.shift.shift_lines.Goals.{After-shift-slack, at·add-line, at·add-line-in-loop-line, at·loop-line-again}
+use Rattle.lines.proofs.shift.shift_lines.Goals.{After-shift-slack}
 
 abbrev none : Line
 none = record { segment = 0; task = 0; order = 0; start = 0; end = 0 }
@@ -45,11 +45,11 @@ fits c =
     let ends = ap (λ (l : Line). l.end) e in
     (omega (arith, time.0, starts, ends), omega (arith, time.1, ends, slack c))
 
-pub overflow-add-line : goal.overflow-add-line
-overflow-add-line c = omega (arith, fits (goal.at.overflow-add-line c).After-shift-slack)
+pub overflow_add-line : goal.overflow_add-line
+overflow_add-line c = omega (arith, fits (goal.at.overflow_add-line c).After-shift-slack)
 
-pub overflow-add-line-in-loop-line : goal.overflow-add-line-in-loop-line
-overflow-add-line-in-loop-line c = omega (arith, fits (goal.at.overflow-add-line-in-loop-line c).After-shift-slack)
+pub overflow_add-line-in-loop-line : goal.overflow_add-line-in-loop-line
+overflow_add-line-in-loop-line c = omega (arith, fits (goal.at.overflow_add-line-in-loop-line c).After-shift-slack)
 
 pub loop-line-preserved : goal.loop-line-preserved
 loop-line-preserved c =

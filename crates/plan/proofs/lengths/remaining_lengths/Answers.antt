@@ -8,15 +8,15 @@ use Rattle.model.proofs.PlaceLaws.{well_formed_place_by_place}
 use Rattle.plan.proofs.Measured.{length-segments, read_exits, length-timelines, read_length}
 use Rattle.plan.proofs.Remaining.{remaining_from}
 use Rattle.plan.proofs.lengths.remaining_lengths.Goals as goal
-use Rattle.plan.proofs.lengths.remaining_lengths.Goals.{After-index-timelines-s, at·loop-s-again}
+use Rattle.plan.proofs.lengths.remaining_lengths.Goals.{After-index-timelines-s}
 
 pub loop-s-init : goal.loop-s-init
 loop-s-init c =
     let g = c.args.graph.now in
-    let xs = vec_items c.in-ok-remaining.remaining in
+    let xs = vec_items c.in_ok-remaining.remaining in
     let all = lengths g.cores 0 (graph_of g).segments in
     let n = c.len-count.result in
-    let many : vec_len c.in-ok-remaining.remaining ≡ vec_len g.segments = search rules in
+    let many : vec_len c.in_ok-remaining.remaining ≡ vec_len g.segments = search rules in
     let few : length xs ≡ n = search rules in
     (many, drop_all n xs (omega arith) ∙ sym (drop_all n all (omega (arith, length-lengths g.cores (graph_of g).segments 0, length-segments g, c.len-count.ensures))))
 
@@ -25,12 +25,12 @@ largest-after-requires c e i =
     let g = c.args.graph.now in
     let s = c.loop-s.s - 1 in
     let inside : s < vec_len g.segments = omega (arith, c.loop-s.auto.s, c.len-count.ensures, c.loop-s-test.true) in
-    let exits = c.as-slice-in-loop-s.ensures.value ∙ sym (read_exits g s c.index.result.now inside c.index.ensures) in
+    let exits = c.as_slice-in-loop-s.ensures.value ∙ sym (read_exits g s c.index.result.now inside c.index.ensures) in
     omega (
       arith,
       (exit_later (graph_of g) (well_formed_place_by_place (graph_of g) g.formed) s e (omega (arith, length-segments g)) (subst (λ l. In e l) exits i)).1,
       length-segments g,
-      c.as-slice.ensures.len,
+      c.as_slice.ensures.len,
       c.loop-s.invariant.0,
     )
 
@@ -55,13 +55,13 @@ sum_is c =
       arith,
       read_length g c.args.timelines.now c.requires s c.index-timelines-s.result inside,
       c.largest-after.ensures,
-      ap (λ l. largest l 0 c.as-slice-in-loop-s.result.now) c.as-slice.ensures.value,
-      ap (largest xs 0) (c.as-slice-in-loop-s.ensures.value ∙ sym (read_exits g s c.index.result.now inside c.index.ensures)),
+      ap (λ l. largest l 0 c.as_slice-in-loop-s.result.now) c.as_slice.ensures.value,
+      ap (largest xs 0) (c.as_slice-in-loop-s.ensures.value ∙ sym (read_exits g s c.index.result.now inside c.index.ensures)),
       remaining_from (graph_of g) (well_formed_place_by_place (graph_of g) g.formed) xs s (omega (arith, length-segments g)) (subst (λ n. drop n xs ≡ drop n all) own c.loop-s.invariant.1),
     )
 
-pub overflow-add-timelines : goal.overflow-add-timelines
-overflow-add-timelines c =
+pub overflow_add-timelines : goal.overflow_add-timelines
+overflow_add-timelines c =
     let g = c.args.graph.now in
     let within = remaining_within (graph_of g) (well_formed_place_by_place (graph_of g) g.formed) (c.loop-s.s - 1) (omega (arith, length-segments g, c.loop-s.auto.s, c.len-count.ensures, c.loop-s-test.true)) in
     omega (arith, sum_is c, within)

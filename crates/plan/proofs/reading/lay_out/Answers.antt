@@ -13,43 +13,50 @@ use Rattle.schedule.specs.Meaning.{timeline_of, planned}
 use Rattle.plan.specs.Tables.{lengths_of}
 use Rattle.plan.proofs.Laying.{ordered, timed, seated, measured, scheduled, deadline_decides}
 use Rattle.plan.proofs.reading.lay_out.Goals as goal
-use Rattle.plan.proofs.reading.lay_out.Goals.{In-ok-timelines, After-index-needed, at·remaining-lengths-requires, at·returns-then-needed-graph, at·ghost-result}
+use Rattle.plan.proofs.reading.lay_out.Goals.{In_ok-timelines, After-index-needed}
 
 -- the timelines are those of the segments
-laid : (c : goal.In-ok-timelines) → map timeline_of (vec_items c.in-ok-timelines.timelines) ≡ map (planned c.args.graph.cores) (graph_of c.args.graph).segments
-laid c = scheduled (graph_of c.args.graph) (length c.args.ready.now) (length c.args.running.now) _ c.in-ok-timelines.ensures.answer
+laid : (c : goal.In_ok-timelines) → map timeline_of (vec_items c.in_ok-timelines.timelines) ≡ map (planned c.args.graph.cores) (graph_of c.args.graph).segments
+laid c = scheduled (graph_of c.args.graph) (length c.args.ready.now) (length c.args.running.now) _ c.in_ok-timelines.ensures.answer
 
-pub remaining-lengths-requires : goal.remaining-lengths-requires
-remaining-lengths-requires c =
-    ap lengths_of c.as-slice.ensures.value
-    ∙ measured c.args.graph.cores (vec_items c.in-ok-timelines.timelines) (graph_of c.args.graph).segments (laid (goal.at.remaining-lengths-requires c).In-ok-timelines)
+pub remaining_lengths-requires : goal.remaining_lengths-requires
+remaining_lengths-requires c =
+    ap lengths_of c.as_slice.ensures.value
+    ∙ measured c.args.graph.cores (vec_items c.in_ok-timelines.timelines) (graph_of c.args.graph).segments (laid (goal.at.remaining_lengths-requires c).In_ok-timelines)
 
 pub index-needed-requires : goal.index-needed-requires
 index-needed-requires c =
     let g = graph_of c.args.graph in
-    omega (arith, ap length c.in-ok-remaining.ensures, length-lengths g.cores g.segments 0, (well_formed_place_by_place g c.args.graph.formed).some_segment)
+    omega (arith, ap length c.in_ok-remaining.ensures, length-lengths g.cores g.segments 0, (well_formed_place_by_place g c.args.graph.formed).some_segment)
 
 -- the first of the remaining lengths is what is needed
 first : (c : goal.After-index-needed) → c.index-needed.result.now ≡ needed (graph_of c.args.graph)
 first c =
-    let items = vec_items c.in-ok-remaining.remaining in
+    let items = vec_items c.in_ok-remaining.remaining in
     let g = graph_of c.args.graph in
-    let some : 0 < length items = omega (arith, ap length c.in-ok-remaining.ensures, length-lengths g.cores g.segments 0, (well_formed_place_by_place g c.args.graph.formed).some_segment) in
-    c.index-needed.ensures ∙ get_or_default items 0 _ 0 some ∙ ap (λ l. get_or l 0 0) c.in-ok-remaining.ensures
+    let some : 0 < length items = omega (arith, ap length c.in_ok-remaining.ensures, length-lengths g.cores g.segments 0, (well_formed_place_by_place g c.args.graph.formed).some_segment) in
+    c.index-needed.ensures ∙ get_or_default items 0 _ 0 some ∙ ap (λ l. get_or l 0 0) c.in_ok-remaining.ensures
 
 pub returns-then-needed-graph : goal.returns-then-needed-graph
 returns-then-needed-graph c =
     let g = graph_of c.args.graph in
     let is = first (goal.at.returns-then-needed-graph c).After-index-needed in
-    deadline_decides g (length c.args.ready.now) (length c.args.running.now) _ c.in-ok-timelines.ensures.answer
+    deadline_decides g (length c.args.ready.now) (length c.args.running.now) _ c.in_ok-timelines.ensures.answer
     ∙ cond-true _ _ _ (lt-ltb g.deadline (needed g) (omega (arith, is, c.if-needed-graph.true)))
     ∙ ap {B = Result Graph Fault} (λ n. Err (fault OverDeadline n)) (sym is)
 
-pub invariant-of-result : goal.invariant-of-result
-invariant-of-result c =
+pub invariant_of-result : goal.invariant_of-result
+invariant_of-result c =
     let cores = c.args.graph.cores in
-    let ts = vec_items c.in-ok-timelines.timelines in
+    let ts = vec_items c.in_ok-timelines.timelines in
     let ss = (graph_of c.args.graph).segments in
-    let at = goal.at.invariant-of-result c in
-    let rows = laid at.In-ok-timelines in
-    (ordered cores ts ss rows, (timed cores ts ss rows, (seated cores ts ss rows, (measured cores ts ss rows, (c.in-ok-remaining.ensures, (omega (arith, first at.After-index-needed, c.if-needed-graph.false), tt))))))
+    let at = goal.at.invariant_of-result c in
+    let rows = laid at.In_ok-timelines in
+    record {
+      ordered = ordered cores ts ss rows;
+      timed = timed cores ts ss rows;
+      seated = seated cores ts ss rows;
+      measured = measured cores ts ss rows;
+      remains = c.in_ok-remaining.ensures;
+      in_time = omega (arith, first at.After-index-needed, c.if-needed-graph.false);
+    }

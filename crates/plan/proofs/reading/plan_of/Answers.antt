@@ -20,5 +20,5 @@ returns c =
     let ready = length c.args.ready.now in
     let running = length c.args.running.now in
     let bs = c.args.bytes.now in
-    let answer : Answers (λ (p : Plan). graph_of p.graph) c.lay-out.result (plan_reading ready running bs) = search rules in
-    record { answer = answer; carries = carries ready running bs c.lay-out.result answer }
+    let answer : Answers (λ (p : Plan). graph_of p.graph) c.lay_out.result (plan_reading ready running bs) = search rules in
+    record { answer = answer; carries = carries ready running bs c.lay_out.result answer }

@@ -9,6 +9,6 @@ use Rattle.reader.proofs.segments.segments.Given as goal
 abbrev pub invariant-loop-own : goal.invariant-loop-own
 invariant-loop-own l =
     (several (next_segment l.count l.many) l.many [] l.bytes ≡ several (next_segment l.count l.many) (l.many - l.own) (map segment_of (vec_items l.segments)) l.rest)
-    × (l.tasks-left ≡ 256 - tasks_in (map segment_of (vec_items l.segments)))
+    × (l.tasks_left ≡ 256 - tasks_in (map segment_of (vec_items l.segments)))
     × (l.left ≡ 1024 - predecessors_in (map segment_of (vec_items l.segments)))
     × (vec_len l.segments ≡ l.own)

@@ -8,7 +8,7 @@ use Rattle.model.specs.Reading.{numbered_task, next_task}
 use Rattle.graph.specs.Meaning.{task_of}
 use Rattle.reader.proofs.Several.{several_more, several_fault, failed}
 use Rattle.reader.proofs.tasks.tasks.Goals as goal
-use Rattle.reader.proofs.tasks.tasks.Goals.{After-task, at·returns-in-err-task, at·loop-own-again}
+use Rattle.reader.proofs.tasks.tasks.Goals.{After-task}
 
 -- the next task as the model has it and as the loop's counts have it
 counted : (c : goal.After-task) → next_task c.args.count c.args.left (map task_of (vec_items c.loop-own.tasks)) c.loop-own.rest.now ≡ numbered_task c.args.count c.loop-own.own c.loop-own.allowed c.loop-own.rest.now
@@ -18,26 +18,26 @@ counted c =
     ap (λ n. numbered_task c.args.count n (c.args.left - predecessors_of done) c.loop-own.rest.now) own
     ∙ ap (λ w. numbered_task c.args.count c.loop-own.own w c.loop-own.rest.now) (sym c.loop-own.invariant.1)
 
-pub returns-in-err-task : goal.returns-in-err-task
-returns-in-err-task c =
-    let p = err_from_is_err_and c.from-residual.result c.from-residual.ensures.1 in
-    let same = counted (goal.at.returns-in-err-task c).After-task in
+pub returns-in_err-task : goal.returns-in_err-task
+returns-in_err-task c =
+    let p = err_from_is_err_and c.from_residual.result c.from_residual.ensures.1 in
+    let same = counted (goal.at.returns-in_err-task c).After-task in
     rw (p.1, p.2) (record {
-      reads = failed c.in-err-task.field-0.0 _ _
+      reads = failed c.in_err-task.field-0.0 _ _
           (λ f e. several_fault (next_task c.args.count c.args.left) _ c.args.many c.loop-own.own _ c.loop-own.rest.now c.loop-own.invariant.0 f c.loop-own-test.true (same ∙ e))
-          c.in-err-task.ensures;
+          c.in_err-task.ensures;
       len = tt;
     })
 
 pub loop-own-preserved : goal.loop-own-preserved
 loop-own-preserved c =
     let done = map task_of (vec_items c.loop-own.tasks) in
-    let t = c.in-ok-task.task in
+    let t = c.in_ok-task.task in
     let same = counted (goal.at.loop-own-preserved c).After-task in
-    let pushed = ap (map task_of) c.in-ok-push.ensures.items ∙ map_push task_of (vec_items c.loop-own.tasks) t in
+    let pushed = ap (map task_of) c.in_ok-push.ensures.items ∙ map_push task_of (vec_items c.loop-own.tasks) t in
     let total = ap predecessors_of pushed ∙ total_push (λ x. length x.predecessors) predecessors_of refl (λ _ _. refl) done (task_of t) in (
-      several_more (next_task c.args.count c.args.left) _ c.args.many c.loop-own.own done c.loop-own.rest.now c.loop-own.invariant.0 _ _ c.loop-own-test.true (same ∙ c.in-ok-task.ensures)
-          ∙ ap (λ ts. several (next_task c.args.count c.args.left) (c.args.many - (c.loop-own.own + 1)) ts c.in-ok-task.more.now) (sym pushed),
-      omega (arith, total, c.loop-own.invariant.1, c.saturating-sub-allowed.ensures, c.len.ensures, t.predecessors.ok.0),
+      several_more (next_task c.args.count c.args.left) _ c.args.many c.loop-own.own done c.loop-own.rest.now c.loop-own.invariant.0 _ _ c.loop-own-test.true (same ∙ c.in_ok-task.ensures)
+          ∙ ap (λ ts. several (next_task c.args.count c.args.left) (c.args.many - (c.loop-own.own + 1)) ts c.in_ok-task.more.now) (sym pushed),
+      omega (arith, total, c.loop-own.invariant.1, c.saturating_sub-allowed.ensures, c.len.ensures, t.predecessors.ok.0),
       search rules,
     )

@@ -9,7 +9,7 @@ use Rattle.schedule_laws.proofs.Beginning.{begins, begun_few, begins_later, begi
 use Rattle.schedule_laws.specs.Beginning.{Beginning}
 use Rattle.schedule.proofs.Reading.{length-tasks, read_task, held_count}
 use Rattle.schedule.proofs.begins.begin.Goals as goal
-use Rattle.schedule.proofs.begins.begin.Goals.{then-count-eq0, else-count-eq0, After-len-count, at·loop-number-again}
+use Rattle.schedule.proofs.begins.begin.Goals.{then-count-eq0, else-count-eq0, After-len-count}
 
 pub loop-number-init : goal.loop-number-init
 loop-number-init c =
@@ -19,7 +19,7 @@ loop-number-init c =
 pub put-requires : goal.put-requires
 put-requires c =
     let l = c.loop-number in
-    omega (arith, begun_few (segment_of c.args.segment.now) l.number (held l.ready) (vec_items l.waiting) l.invariant.3, held_count l.ready, l.invariant.1, c.requires.room, c.loop-number-test.true, c.as-slice-task-items.ensures.len)
+    omega (arith, begun_few (segment_of c.args.segment.now) l.number (held l.ready) (vec_items l.waiting) l.invariant.3, held_count l.ready, l.invariant.1, c.requires.room, c.loop-number-test.true, c.as_slice-task-items.ensures.len)
 
 -- the task that is read
 reads : (c : goal.After-len-count) → ((task (segment_of c.args.segment.now) c.loop-number.number).worst ≡ c.task-item.result.worst) × (c.len-count.result ≡ length (task (segment_of c.args.segment.now) c.loop-number.number).predecessors)
@@ -27,8 +27,8 @@ reads c =
     let s = c.args.segment.now in
     let i = c.loop-number.number in
     let x = c.task-item.result in
-    let value = c.as-slice-task-items.ensures.value in
-    let is = read_task s i x (omega (arith, c.loop-number-test.true, c.as-slice-task-items.ensures.len)) (c.task-item.is ∙ ap (λ l. get_or l i x) value) in
+    let value = c.as_slice-task-items.ensures.value in
+    let is = read_task s i x (omega (arith, c.loop-number-test.true, c.as_slice-task-items.ensures.len)) (c.task-item.is ∙ ap (λ l. get_or l i x) value) in
     (ap (λ (t : Task). t.worst) is, c.len-count.ensures ∙ x.predecessors.ok.0 ∙ sym (ap (λ (t : Task). length t.predecessors) is))
 
 pub loop-number-preserved : goal.loop-number-preserved
@@ -40,7 +40,7 @@ loop-number-preserved c =
     let R = held l.ready in
     let n = c.len-count.result in
     let r = reads (goal.at.loop-number-preserved c).After-len-count in
-    let pushed : W ++ (n ∷ []) ≡ vec_items c.push.new.self = sym c.in-ok-push.ensures.items in
+    let pushed : W ++ (n ∷ []) ≡ vec_items c.push.new.self = sym c.in_ok-push.ensures.items in
     elim c.if-count-eq0.branch [
       | then-count-eq0 w ↦
           let put = w.put.ensures.put in (
@@ -65,7 +65,7 @@ pub returns : goal.returns
 returns c =
     let s = c.args.segment.now in
     let l = c.loop-number in
-    let all : l.number ≡ length (segment_of s).tasks = omega (arith, c.loop-number-test.false, l.auto.number-end, c.as-slice-task-items.ensures.len, length-tasks s) in record {
+    let all : l.number ≡ length (segment_of s).tasks = omega (arith, c.loop-number-test.false, l.auto.number-end, c.as_slice-task-items.ensures.len, length-tasks s) in record {
       same = l.invariant.0;
       room = l.invariant.1;
       ordered = l.invariant.2;

@@ -3,4 +3,4 @@ use Rattle.schedule.specs.Vecs.{lists}
 use Rattle.schedule.proofs.followers.no_followers.Given as goal
 
 abbrev pub invariant-loop-number : goal.invariant-loop-number
-invariant-loop-number l = lists l.followers ≡ replicate l.-number []
+invariant-loop-number l = lists l.followers ≡ replicate l._number []

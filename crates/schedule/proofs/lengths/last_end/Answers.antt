@@ -20,8 +20,8 @@ index-requires c =
     let x = get_or xs c.loop-start.start-index none in
     omega (arith, (c.requires (start_of x) (in_map start_of x xs (at_place none xs c.loop-start.start-index c.loop-start-test.true))).0, length-tasks c.args.segment.now)
 
-pub overflow-add-end : goal.overflow-add-end
-overflow-add-end c =
+pub overflow_add-end : goal.overflow_add-end
+overflow_add-end c =
     let g = c.args.segment.now in
     let xs = c.args.starts.now in
     let x = get_or xs c.loop-start.start-index none in

@@ -15,7 +15,7 @@ use Rattle.schedule_laws.specs.Released.{Released}
 use Rattle.schedule_laws.specs.Standing.{Standing}
 use Rattle.schedule.proofs.Due.{known, follows, has_followers, counted, waits, cells}
 use Rattle.schedule.proofs.passes.end_due.Goals as goal
-use Rattle.schedule.proofs.passes.end_due.Goals.{In-Some, at·end-requires, at·loop-next-again, at·returns-then-next-progress}
+use Rattle.schedule.proofs.passes.end_due.Goals.{In-Some}
 
 -- with the entry that was taken in front of those that are left
 abbrev TakenOut : (c : goal.In-Some) → ℕ → Progress → List ℕ → Type 0
@@ -79,10 +79,10 @@ loop-next-preserved c =
 pub returns : goal.returns
 returns c =
     let l = c.loop-next in
-    let none = c.in-default.ensures in
+    let none = c.in_default.ensures in
     let same = none.cases.1 in record {
-      same-ready = l.invariant.0;
-      same-running = none.same ∙ l.invariant.1;
+      same_ready = l.invariant.0;
+      same_running = none.same ∙ l.invariant.1;
       moment = l.invariant.2;
       starts = l.invariant.3;
       ready_room = l.invariant.4;
@@ -104,8 +104,8 @@ returns-then-next-progress c =
     let e = c.in-Some.next in
     let U = held c.take.new.self in
     let put = c.put.ensures.put in record {
-      same-ready = l.invariant.0;
-      same-running = c.put.ensures.same ∙ took.same ∙ l.invariant.1;
+      same_ready = l.invariant.0;
+      same_running = c.put.ensures.same ∙ took.same ∙ l.invariant.1;
       moment = l.invariant.2;
       starts = l.invariant.3;
       ready_room = l.invariant.4;

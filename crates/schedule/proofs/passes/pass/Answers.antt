@@ -12,7 +12,7 @@ use Rattle.schedule.specs.Meaning.{start_of}
 use Rattle.schedule.specs.Stands.{Stands}
 use Rattle.schedule.proofs.Due.{known, follows, has_followers, counted, waits, cells}
 use Rattle.schedule.proofs.passes.pass.Goals as goal
-use Rattle.schedule.proofs.passes.pass.Goals.{In-Some, After-end, at·end-requires, at·end-due-requires, at·returns}
+use Rattle.schedule.proofs.passes.pass.Goals.{In-Some, After-end}
 
 -- the earliest entry is in front of those that are left
 begun : (c : goal.In-Some) (cores : ℕ) (p : Progress) → Stands cores (segment_of c.args.segment.now) p c.args.progress.now c.args.ready.now c.args.running.now
@@ -55,22 +55,22 @@ end-requires c =
       room = cells w.0 g w.2 p c.args.ready.now U P.waiting P.taken e r.standing c.args.followers.now c.requires.follows room;
     }
 
-pub end-due-requires : goal.end-due-requires
-end-due-requires c =
+pub end_due-requires : goal.end_due-requires
+end_due-requires c =
     let w = c.requires.stands in record {
       follows = c.requires.follows;
       room = omega (arith, w.3.ready_room, c.end.ensures.room);
       ordered = c.in-Some.ensures.cases.ordered w.3.running_ordered;
-      passing = (w.0, w.1, c.in-Some.earliest.task ∷ w.1.ended, w.2, ended (goal.at.end-due-requires c).After-end w.0 w.1 w.2 w.3 (begun (goal.at.end-due-requires c).In-Some w.0 w.1 w.3));
+      passing = (w.0, w.1, c.in-Some.earliest.task ∷ w.1.ended, w.2, ended (goal.at.end_due-requires c).After-end w.0 w.1 w.2 w.3 (begun (goal.at.end_due-requires c).In-Some w.0 w.1 w.3));
     }
 
 pub returns : goal.returns
 returns c =
     let took = c.in-Some.ensures in
     let done = c.end.ensures in
-    let due = c.end-due.ensures in record {
-      same-ready = due.same-ready ∙ done.same;
-      same-running = due.same-running ∙ took.same;
+    let due = c.end_due.ensures in record {
+      same_ready = due.same_ready ∙ done.same;
+      same_running = due.same_running ∙ took.same;
       passed = λ cores p b h.
           let s = segment_of c.args.segment.now in
           let r = ended (goal.at.returns c).After-end cores p b h (begun (goal.at.returns c).In-Some cores p h) in
@@ -85,12 +85,12 @@ returns c =
           };
     }
 
-pub returns-in-default : goal.returns-in-default
-returns-in-default c =
-    let none = c.in-default.ensures in
+pub returns-in_default : goal.returns-in_default
+returns-in_default c =
+    let none = c.in_default.ensures in
     let same = none.cases.1 in record {
-      same-ready = refl;
-      same-running = none.same;
+      same_ready = refl;
+      same_running = none.same;
       passed = λ cores p b h.
           let s = segment_of c.args.segment.now in
           let P = c.args.progress.now in

@@ -19,13 +19,13 @@ timeline-requires c =
     let i = c.loop-segment.segment-index in
     let x = c.segment-item.result in
     let items = vec_items g.segments in
-    let value = c.as-slice-segment-items.ensures.value in
+    let value = c.as_slice-segment-items.ensures.value in
     let low : i < length items = omega (arith, c.loop-segment-test.true, ap length value) in
     let inside : i < length (map segment_of items) = omega (arith, low, length-map items segment_of) in
     let read : segment (graph_of g) i ≡ segment_of x = get_or-map segment_of items i x no_segment low ∙ ap segment_of (sym (c.segment-item.is ∙ ap (λ l. get_or l i x) value)) in
-    let most = ap (λ l. tasks_of_largest (map segment_of l)) c.as-slice.ensures.value in record {
+    let most = ap (λ l. tasks_of_largest (map segment_of l)) c.as_slice.ensures.value in record {
       bounded = subst (λ s. Bounded g.cores s) read (bounded (graph_of g) (well_formed_place_by_place (graph_of g) g.formed) i inside);
-      ready_room = omega (arith, largest_each (map segment_of items) i inside, ap (λ s. length s.tasks) read, most, c.most-tasks-tasks.ensures, c.if-ready-tasks.false, c.loop-segment.auto.ready);
+      ready_room = omega (arith, largest_each (map segment_of items) i inside, ap (λ s. length s.tasks) read, most, c.most_tasks-tasks.ensures, c.if-ready-tasks.false, c.loop-segment.auto.ready);
       running_room = omega (arith, c.if-running-cores.false, c.loop-segment.auto.running);
     }
 
@@ -36,25 +36,25 @@ loop-segment-preserved c =
     let x = c.segment-item.result in
     let items = vec_items g.segments in
     let front = take i items in
-    let value = c.as-slice-segment-items.ensures.value in
+    let value = c.as_slice-segment-items.ensures.value in
     let low : i < length items = omega (arith, c.loop-segment-test.true, ap length value) in
-    let t = c.in-ok-timeline.timeline in
+    let t = c.in_ok-timeline.timeline in
     let more : take (i + 1) items ≡ front ++ (x ∷ []) = take_more items i x low ∙ ap (λ y. front ++ (y ∷ [])) (sym (c.segment-item.is ∙ ap (λ l. get_or l i x) value)) in
-    ap (map timeline_of) c.in-ok-push.ensures.items
+    ap (map timeline_of) c.in_ok-push.ensures.items
     ∙ map_push timeline_of (vec_items c.loop-segment.timelines) t
     ∙ ap (λ l. l ++ (timeline_of t ∷ [])) c.loop-segment.invariant
-    ∙ ap (λ y. map (planned g.cores) (map segment_of front) ++ (y ∷ [])) c.in-ok-timeline.ensures
+    ∙ ap (λ y. map (planned g.cores) (map segment_of front) ++ (y ∷ [])) c.in_ok-timeline.ensures
     ∙ sym (ap (λ l. map (planned g.cores) (map segment_of l)) more ∙ ap (map (planned g.cores)) (map_push segment_of front x) ∙ map_push (planned g.cores) (map segment_of front) (segment_of x))
 
 pub returns : goal.returns
 returns c =
     let g = c.args.graph.now in
     let items = vec_items g.segments in
-    let most = ap (λ l. tasks_of_largest (map segment_of l)) c.as-slice.ensures.value in
-    let all = take_all c.loop-segment.segment-index items (omega (arith, c.loop-segment-test.false, ap length c.as-slice-segment-items.ensures.value)) in
+    let most = ap (λ l. tasks_of_largest (map segment_of l)) c.as_slice.ensures.value in
+    let all = take_all c.loop-segment.segment-index items (omega (arith, c.loop-segment-test.false, ap length c.as_slice-segment-items.ensures.value)) in
     record {
       answer =
-          cond-false _ _ _ (le-ltb (length c.args.ready.now) (tasks_of_largest (map segment_of items)) (omega (arith, most, c.most-tasks-tasks.ensures, c.if-ready-tasks.false)))
+          cond-false _ _ _ (le-ltb (length c.args.ready.now) (tasks_of_largest (map segment_of items)) (omega (arith, most, c.most_tasks-tasks.ensures, c.if-ready-tasks.false)))
           ∙ cond-false _ _ _ (le-ltb (length c.args.running.now) g.cores c.if-running-cores.false)
           ∙ ap {B = Result (List Plan) Fault} (λ l. Ok l) (sym (c.loop-segment.invariant ∙ ap (λ l. map (planned g.cores) (map segment_of l)) all));
       kept = tt;

@@ -20,56 +20,56 @@ none_taken c = ⊎_elim (λ l. get_or-replicate 8 c false false l) (λ l. get_or
 
 pub begin-requires : goal.begin-requires
 begin-requires c =
-    let new = c.new-ready-queue.ensures in
+    let new = c.new-ready_queue.ensures in
     record { empty = new.empty; room = omega (arith, c.requires.ready_room, ap length new.cells, length-tasks c.args.segment.now) }
 
 pub loop-event-init : goal.loop-event-init
 loop-event-init c =
     let s = segment_of c.args.segment.now in
     let n = c.args.cores in
-    let done = c.in-ok-waiting.ensures in
+    let done = c.in_ok-waiting.ensures in
     let R = held c.begin.new.ready in
-    let W = vec_items c.in-ok-waiting.waiting in
-    let new = c.new-running-queue.ensures in (
+    let W = vec_items c.in_ok-waiting.waiting in
+    let new = c.new-running_queue.ensures in (
       refl,
       refl,
       record {
         moment = refl;
         starts = ap (map start_of) c.new.ensures.items;
         standing = subst (λ us. Standing n s (after n s 0) R us W (replicate 8 false)) (sym new.empty.holds) (begun_all n s R W (replicate 8 false) done.begun refl none_taken);
-        ready_ordered = done.ordered c.new-ready-queue.ensures.ordered;
+        ready_ordered = done.ordered c.new-ready_queue.ensures.ordered;
         running_ordered = new.ordered;
-        ready_room = omega (arith, c.requires.ready_room, done.room, ap length c.new-ready-queue.ensures.cells);
+        ready_room = omega (arith, c.requires.ready_room, done.room, ap length c.new-ready_queue.ensures.cells);
         running_room = omega (arith, c.requires.running_room, ap length new.cells);
       },
     )
 
 pub event-requires : goal.event-requires
 event-requires c =
-    record { bounded = c.requires.bounded; follows = c.in-ok-followers.ensures; stands = (after c.args.cores (segment_of c.args.segment.now) c.loop-event.-event, c.loop-event.invariant.2) }
+    record { bounded = c.requires.bounded; follows = c.in_ok-followers.ensures; stands = (after c.args.cores (segment_of c.args.segment.now) c.loop-event._event, c.loop-event.invariant.2) }
 
 pub loop-event-preserved : goal.loop-event-preserved
 loop-event-preserved c =
     let s = segment_of c.args.segment.now in
     let n = c.args.cores in
-    let k = c.loop-event.-event in
-    let done = c.in-ok-event.ensures in
+    let k = c.loop-event._event in
+    let done = c.in_ok-event.ensures in
     let one : suc k ≡ k + 1 = omega arith in (
-      done.same-ready ∙ c.loop-event.invariant.0,
-      done.same-running ∙ c.loop-event.invariant.1,
+      done.same_ready ∙ c.loop-event.invariant.0,
+      done.same_running ∙ c.loop-event.invariant.1,
       subst (λ j. Stands n s (after n s j) c.event.new.progress c.event.new.ready c.event.new.running) one (done.next (after n s k) c.loop-event.invariant.2),
     )
 
-pub last-end-length-requires : goal.last-end-length-requires
-last-end-length-requires c x i =
+pub last_end-length-requires : goal.last_end-length-requires
+last_end-length-requires c x i =
     let s = segment_of c.args.segment.now in
     let n = c.args.cores in
-    let p = after n s c.loop-event.-event in
+    let p = after n s c.loop-event._event in
     let h = c.loop-event.invariant.2 in
     let st = h.standing in
-    let j : In x p.starts = subst (λ l. In x l) (ap (map start_of) c.as-slice.ensures.value ∙ h.starts) i in (
+    let j : In x p.starts = subst (λ l. In x l) (ap (map start_of) c.as_slice.ensures.value ∙ h.starts) i in (
       st.begun_low x.task (in_has (begun p.starts) x.task (in_map (λ (y : Start). y.task) x p.starts j)),
-      omega (arith, st.ends_near x j, starts_few n s p (held c.loop-event.ready-queue) (held c.loop-event.running-queue) (vec_items c.loop-event.progress.waiting) c.loop-event.progress.taken st, c.requires.bounded.few_tasks),
+      omega (arith, st.ends_near x j, starts_few n s p (held c.loop-event.ready_queue) (held c.loop-event.running_queue) (vec_items c.loop-event.progress.waiting) c.loop-event.progress.taken st, c.requires.bounded.few_tasks),
     )
 
 pub returns : goal.returns
@@ -78,7 +78,7 @@ returns c =
     let s = segment_of g in
     let n = c.args.cores in
     let h = c.loop-event.invariant.2 in
-    let all : c.loop-event.-event ≡ 2 * length s.tasks = omega (arith, c.loop-event-test.false, c.loop-event.auto.-event-end, c.len-event-end.ensures, length-tasks g) in
+    let all : c.loop-event._event ≡ 2 * length s.tasks = omega (arith, c.loop-event-test.false, c.loop-event.auto._event-end, c.len-event-end.ensures, length-tasks g) in
     let starts = h.starts ∙ ap (λ k. (after n s k).starts) all in
-    ap {B = Plan} (λ l. record { starts = l; length = c.last-end-length.result }) starts
-    ∙ ap {B = Plan} (λ m. record { starts = canonical n s; length = m }) (c.last-end-length.ensures ∙ ap (λ l. last_end s (map start_of l)) c.as-slice.ensures.value ∙ ap (last_end s) starts)
+    ap {B = Plan} (λ l. record { starts = l; length = c.last_end-length.result }) starts
+    ∙ ap {B = Plan} (λ m. record { starts = canonical n s; length = m }) (c.last_end-length.ensures ∙ ap (λ l. last_end s (map start_of l)) c.as_slice.ensures.value ∙ ap (last_end s) starts)

@@ -7,6 +7,6 @@ use Rattle.schedule.proofs.timelines.timeline.Given as goal
 -- the state stands for the schedule after so many events
 abbrev pub invariant-loop-event : goal.invariant-loop-event
 invariant-loop-event l =
-    (l.ready-queue.cells.ghost_name ≡ l.initial.ready-queue.cells.ghost_name)
-    × (l.running-queue.cells.ghost_name ≡ l.initial.running-queue.cells.ghost_name)
-    × Stands l.cores (segment_of l.segment) (after l.cores (segment_of l.segment) l.-event) l.progress l.ready-queue l.running-queue
+    (l.ready_queue.cells.ghost_name ≡ l.initial.ready_queue.cells.ghost_name)
+    × (l.running_queue.cells.ghost_name ≡ l.initial.running_queue.cells.ghost_name)
+    × Stands l.cores (segment_of l.segment) (after l.cores (segment_of l.segment) l._event) l.progress l.ready_queue l.running_queue

@@ -17,8 +17,8 @@ returns-then-work-eq0 g c =
     let is = floor_of_nothing xs sound c.args.work c.args.window (omega arith) in
     record { answer = sym is; parts = floors_part_the_levels xs sound c.args.work c.args.window 0 is }
 
-pub lowest-level-requires : goal.lowest-level-requires
-lowest-level-requires g c =
+pub lowest_level-requires : goal.lowest_level-requires
+lowest_level-requires g c =
     let xs = g.L.Ladder.speeds c.args.ladder.now in
     let sound = g.met.L.Ladder.sound c.args.ladder.now in
     omega (arith, needed_most xs sound c.args.work c.args.window (omega arith) (omega arith))
@@ -27,7 +27,7 @@ pub returns : goal.returns
 returns g c =
     let xs = g.L.Ladder.speeds c.args.ladder.now in
     let sound = g.met.L.Ladder.sound c.args.ladder.now in
-    let i = c.lowest-level.result in
-    let low = subst (λ s. FirstEnough xs s i) c.scaled.ensures c.lowest-level.ensures in
+    let i = c.lowest_level.result in
+    let low = subst (λ s. FirstEnough xs s i) c.scaled.ensures c.lowest_level.ensures in
     let is = floor_of_needed xs sound c.args.work c.args.window (omega arith) i low.inside low.enough low.slower in
     record { answer = sym is; parts = floors_part_the_levels xs sound c.args.work c.args.window i is }

@@ -4,4 +4,4 @@ use Rattle.plan.proofs.place.Plan.new.Goals as goal
 -- the fresh plan is what its bytes read as
 pub returns : goal.returns
 unfolding numbers.number
-returns c = c.plan-of.ensures.answer
+returns c = c.plan_of.ensures.answer

@@ -12,5 +12,5 @@ returns c =
     let plan = c.args.self.now in
     let g = graph_of plan.graph in
     let passes = accepted_passes g (record { formed = well_formed_place_by_place g plan.graph.formed; in_time = plan.in_time }) in
-    let wrote = c.write-graph.ensures in
-    record { answer = wrote.answer; reads-back = IfOk-weaker c.write-graph.result _ _ (λ n e. ap (then_accepting most_tasks most_cores) e ∙ passes) wrote.reads-back }
+    let wrote = c.write_graph.ensures in
+    record { answer = wrote.answer; reads_back = IfOk-weaker c.write_graph.result _ _ (λ n e. ap (then_accepting most_tasks most_cores) e ∙ passes) wrote.reads_back }

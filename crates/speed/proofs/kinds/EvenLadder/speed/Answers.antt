@@ -9,8 +9,8 @@ speed-requires c =
     let s = c.args.self.now.steps in
     record { there = omega arith; few = omega (arith, even_count s.lowest s.step s.count) }
 
-pub overflow-cast-result : goal.overflow-cast-result
-overflow-cast-result c =
+pub overflow_cast-result : goal.overflow_cast-result
+overflow_cast-result c =
     let x = c.args.self.now in
     let s = x.steps in
     let sound = even_sound s.lowest s.step s.count x.some x.least x.most x.rises in

@@ -3,17 +3,24 @@ use Rattle.model.proofs.MakingLaws.{sound_speeds_make_a_ladder}
 use Rattle.speed.proofs.Table.{table_speeds, table_least, table_most, table_rises}
 use Rattle.speed.proofs.listed.Listed.set.Goals as goal
 
-pub invariant-of-self : goal.invariant-of-self
-invariant-of-self c =
+pub invariant_of-self : goal.invariant_of-self
+invariant_of-self c =
     let xs = c.args.speeds.now in
-    let passed = (sound_speeds_make_a_ladder 16 xs).1 xs (sym c.in-ok-check.ensures.answer) in
-    let same = c.copy-from-slice.ensures.after in
-    (simp (length-append, length-drop) (omega (arith, ap length same, passed.2)), (passed.1.some_level, (passed.2, (table_least xs _ _ same passed.1, (table_most xs _ _ same passed.1, (table_rises xs _ _ same passed.1, tt))))))
+    let passed = (sound_speeds_make_a_ladder 16 xs).1 xs (sym c.in_ok-check.ensures.answer) in
+    let same = c.copy_from_slice.ensures.after in
+    record {
+      whole = simp (length-append, length-drop) (omega (arith, ap length same, passed.2));
+      some = passed.1.some_level;
+      few = passed.2;
+      least = table_least xs _ _ same passed.1;
+      most = table_most xs _ _ same passed.1;
+      rises = table_rises xs _ _ same passed.1;
+    }
 
 pub returns : goal.returns
 returns c =
     let xs = c.args.speeds.now in record {
-      answer = ap Ok (table_speeds xs _ _ c.copy-from-slice.ensures.after) ∙ c.in-ok-check.ensures.answer;
+      answer = ap Ok (table_speeds xs _ _ c.copy_from_slice.ensures.after) ∙ c.in_ok-check.ensures.answer;
       kept = tt;
       carries = tt;
     }
