@@ -1,4 +1,6 @@
 // bagplan: reads a plan's bytes from standard input and prints what the plan says, or why it is refused.
+#![tactic(auto)]
+
 mod report;
 
 use anyhow::anyhow;

@@ -1,4 +1,6 @@
 // Bytes from hexadecimal digits.
+#![tactic(auto)]
+
 mod pair;
 mod word;
 

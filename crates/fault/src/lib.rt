@@ -1,4 +1,6 @@
 // Faults: why a call was refused. A fault is a kind and a place; the kind gives its number and its layer.
+#![tactic(auto)]
+
 mod error;
 mod kind;
 mod print;

@@ -5,7 +5,7 @@ ghost use Rattle.graph.specs.Meaning.{graph_with};
 
 use crate::parts::Segment;
 
-// A graph, the cores to run it on, and its deadline in ticks. It is well_formed, whoever holds it.
+// A graph, the cores to run it on, and its deadline in ticks. It is well-formed, whoever holds it.
 #[derive(Drop)]
 pub struct Graph {
     pub cores: u32,

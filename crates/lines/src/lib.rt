@@ -1,4 +1,6 @@
 // The line records of a plan: the latest times of its tasks.
+#![tactic(auto)]
+
 mod canonical;
 mod count;
 mod fill;

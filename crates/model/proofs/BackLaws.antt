@@ -1,4 +1,4 @@
--- The bytes of a well_formed graph are read back; cut short they end inside, and bytes after them are refused.
+-- The bytes of a well-formed graph are read back; cut short they end inside, and bytes after them are refused.
 use Rattle.std.proofs.Common.{◌≡◌, ℕ, zero, suc, pred, ◌+◌, ◌-◌, ◌<◌, ◌≤◌, true, ltb, leb, List, [], ◌∷◌, ◌++◌, length, take, Ok, sym, refl, subst, append_assoc, append-nil, arith, length-append}
 use Rattle.std.specs.List.{flat_map}
 use Rattle.std.proofs.lemmas.Bool.{and_parts, le-leb, lt-leb, ltb-true}

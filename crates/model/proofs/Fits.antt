@@ -1,4 +1,4 @@
--- What a well_formed graph asks of each task and each segment, told those before it: as a reader can see it.
+-- What a well-formed graph asks of each task and each segment, told those before it: as a reader can see it.
 use Rattle.std.proofs.Common.{◌≡◌, ℕ, pred, ◌+◌, ◌-◌, ◌≤◌, true, ◌&&◌, leb, List, [], length, refl, arith}
 use Rattle.std.proofs.lemmas.Bool.{and_parts, and_from, leb-true, le-leb}
 use Rattle.model.specs.Formed.{within, rises, task_formed, segment_formed, all_entered, well_formed}
@@ -102,7 +102,7 @@ module _ (segments : ℕ) (ss : List Segment) where
         omega (arith, predecessors),
       )
 
--- a graph is well_formed where its numbers keep their limits and each segment but 0 is an exit
+-- a graph is well-formed where its numbers keep their limits and each segment but 0 is an exit
 pub formed_numbered : (g : Graph) → well_formed g ≡ true → Numbered g × AllEntered g
 formed_numbered g e =
     let ss = g.segments in

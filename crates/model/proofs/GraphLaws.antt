@@ -1,4 +1,4 @@
--- Bytes that read without fault describe a well_formed graph, and are its bytes.
+-- Bytes that read without fault describe a well-formed graph, and are its bytes.
 use Rattle.std.proofs.Common.{◌≡◌, ℕ, zero, suc, pred, ◌+◌, ◌-◌, true, ltb, leb, List, [], ◌∷◌, ◌++◌, length, Ok, sym, refl, ap, ◌∙◌, subst, append_assoc, append-nil, arith, take-append-drop}
 use Rattle.std.proofs.lemmas.List.{length-take-le}
 use Rattle.std.proofs.lemmas.Bool.{and_from, leb-true}

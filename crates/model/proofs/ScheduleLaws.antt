@@ -15,7 +15,7 @@ use Rattle.model.proofs.Kept.{map-in, apart_same}
 use Rattle.model.proofs.Members.{place, at_place, place_before, before_place, apart_places}
 use Rattle.model.proofs.Steady.{Placed, Steady, begun_below}
 
--- the segments of a well_formed graph
+-- the segments of a well-formed graph
 pub formed_lower : (g : Graph) → Formed g → (s : ℕ) → s < count g → Lower (segment g s)
 formed_lower g f s h t u l i =
     let r = place u 0 (task (segment g s) t).predecessors i in

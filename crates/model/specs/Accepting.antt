@@ -13,7 +13,7 @@ abbrev pub tasks_of_largest : List Segment → ℕ
 tasks_of_largest [] = 0
 tasks_of_largest (s ∷ ss) = max (length s.tasks) (tasks_of_largest ss)
 
--- a graph that is well_formed and needs no longer than its deadline
+-- a graph that is well-formed and needs no longer than its deadline
 pub record Accepted (g : Graph) : Type 0 where
   pub formed : Formed g
   pub in_time : needed g ≤ g.deadline

@@ -1,4 +1,4 @@
--- When a graph is well_formed: every limit and every order that a plan has to keep.
+-- When a graph is well-formed: every limit and every order that a plan has to keep.
 use Rattle.std.specs.Prelude.{ℕ, zero, suc, pred, ◌+◌, Bool, true, ◌&&◌, List, [], length, nat_le, nat_lt}
 use Rattle.model.specs.Graph.{Graph, Segment, Task, tasks_in, predecessors_in, entered}
 use Rattle.model.specs.Limits.{most_cores, most_deadline, most_segments, most_tasks, most_predecessors, most_exits, most_name, most_worst}

@@ -18,11 +18,11 @@ NumbersReadBack = (n count : ℕ) (rest : List ℕ) → n < 4294967296 → numbe
 abbrev pub NumbersTakeTheirBytes : Type 0
 NumbersTakeTheirBytes = (n count : ℕ) (bs rest : List ℕ) → number count bs ≡ Ok (n, rest) → (n < 4294967296) × (bs ≡ number_bytes n ++ rest)
 
--- the bytes of a well_formed graph read back to it
+-- the bytes of a well-formed graph read back to it
 abbrev pub GraphsReadBack : Type 0
 GraphsReadBack = (g : Graph) → well_formed g ≡ true → reading (graph_bytes g) ≡ Ok g
 
--- a graph that is read is well_formed
+-- a graph that is read is well-formed
 abbrev pub GraphsReadAreFormed : Type 0
 GraphsReadAreFormed = (g : Graph) (bs : List ℕ) → reading bs ≡ Ok g → well_formed g ≡ true
 

@@ -1,4 +1,4 @@
--- A well_formed graph, place by place.
+-- A well-formed graph, place by place.
 use Rattle.std.specs.Prelude.{◌≡◌, ℕ, ◌<◌, ◌≤◌, true, List, [], length, slice_index, slice_index_or}
 use Rattle.model.specs.Formed.{well_formed}
 use Rattle.model.specs.Graph.{Graph, Segment, Task, tasks_in, predecessors_in}
@@ -53,7 +53,7 @@ module _ (g : Graph) where
     -- every segment but 0 is an exit
     pub exit_of : (e : ℕ) → 1 ≤ e → e < count → (s : ℕ) × (i : ℕ) × (s < count) × (i < length (exits_of s)) × (slice_index (exits_of s) i ≡ e)
 
--- a well_formed graph keeps every limit and order at every place
+-- a well-formed graph keeps every limit and order at every place
 abbrev pub WellFormedPlaceByPlace : Type 0
 WellFormedPlaceByPlace = (g : Graph) → well_formed g ≡ true → Formed g
 

@@ -1,5 +1,7 @@
 // What the product means: graphs, their bytes and their schedules, ladders and policies, and the laws over them. No code
 // runs here.
+#![tactic(auto)]
+
 pub mod frames;
 pub mod ladders;
 pub mod plans;
@@ -18,7 +20,7 @@ pub fn numbers_take_their_bytes()
     ensures { NumbersTakeTheirBytes }
 {}
 
-// A graph that is read is well_formed.
+// A graph that is read is well-formed.
 pub fn graphs_read_are_formed()
     ensures { GraphsReadAreFormed }
 {}
@@ -28,7 +30,7 @@ pub fn graphs_take_their_bytes()
     ensures { GraphsTakeTheirBytes }
 {}
 
-// The bytes of a well_formed graph read back to it.
+// The bytes of a well-formed graph read back to it.
 pub fn graphs_read_back()
     ensures { GraphsReadBack }
 {}
@@ -58,12 +60,12 @@ pub fn no_entry_names_the_lowest()
     ensures { NoEntryNamesTheLowest }
 {}
 
-// A well_formed graph keeps every limit and order at every place.
+// A well-formed graph keeps every limit and order at every place.
 pub fn well_formed_place_by_place()
     ensures { WellFormedPlaceByPlace }
 {}
 
-// A graph that keeps every limit and order at every place is well_formed.
+// A graph that keeps every limit and order at every place is well-formed.
 pub fn place_by_place_well_formed()
     ensures { PlaceByPlaceWellFormed }
 {}

@@ -1,4 +1,6 @@
 // Numbers in bytes: groups of seven bits, lowest first.
+#![tactic(auto)]
+
 mod form;
 mod place;
 mod read;

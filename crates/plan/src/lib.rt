@@ -1,4 +1,6 @@
 // The plan place: a graph with its canonical schedule and lengths, which bytes are read into.
+#![tactic(auto)]
+
 mod lengths;
 mod names;
 mod place;

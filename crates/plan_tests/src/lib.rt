@@ -1,3 +1,5 @@
 // Examples of the plan place, its names and its line records, worked out by hand.
+#![tactic(auto)]
+
 #[cfg(test)]
 mod tests;

@@ -1,5 +1,5 @@
-use fault::{Error, Fault, Kind};
 use digits::read_word;
+use fault::{Error, Fault, Kind};
 use lines::{Line, fill_lines, line_count};
 use plan::Plan;
 use queue::{Ready, Running};

@@ -1,7 +1,7 @@
 use crate::shown::shown;
 use anyhow::anyhow;
-use fault::{Error, Fault};
 use digits::read_word;
+use fault::{Error, Fault};
 use plan::Plan;
 use queue::{Ready, Running};
 use std::alloc::{AllocError, Global};

@@ -7,6 +7,8 @@
 //     accepted needed N lengths N,.. remaining N,.. shifts N,.. starts TASK:AT:CORE,../.. lines S:T:PLACE:START:END,..
 //
 // where starts stand in canonical order, and / parts the segments.
+#![tactic(auto)]
+
 mod answer;
 mod shown;
 

@@ -1,4 +1,6 @@
 // One priority queue in cells that the caller hands in, for every kind of entry whose order is total.
+#![tactic(auto)]
+
 mod cells;
 mod heap;
 mod kinds;

@@ -1,4 +1,6 @@
 // Tests of the queue with both kinds of entry.
+#![tactic(auto)]
+
 #[cfg(test)]
 mod tests {
     use fault::{Fault, Kind};

@@ -1,4 +1,6 @@
 // The reader of plan bytes.
+#![tactic(auto)]
+
 mod entries;
 mod limits;
 mod pieces;

@@ -22,8 +22,7 @@ fn tell(reading: &Result<Plan, Error>) -> u32
 }
 
 // 0 for a plan that is accepted, or the number of its refusal; 255 where memory lacked.
-#[unsafe(no_mangle)]
-pub extern "C" fn bolgtun_judge(heap: Global, bytes: &[u8]) -> u32
+pub fn bolgtun_judge(heap: Global, bytes: &[u8]) -> u32
     ensures { Judged result (plan_reading most_tasks most_cores bytes.now) }
 {
     tell(&Plan::from_bytes(heap, bytes))

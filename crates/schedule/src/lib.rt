@@ -1,5 +1,7 @@
 // The canonical schedule of every segment of a graph: list scheduling from time 0, the longest task first, with one
 // queue of the ready tasks and one of the running ones.
+#![tactic(auto)]
+
 mod begins;
 mod ends;
 mod events;

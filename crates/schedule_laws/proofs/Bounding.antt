@@ -1,4 +1,4 @@
--- Each segment of a well_formed graph is bounded.
+-- Each segment of a well-formed graph is bounded.
 use Rattle.std.proofs.Common.{ℕ, suc, ◌<◌, List, [], ◌∷◌, length, get_or, arith}
 use Rattle.model.specs.Graph.{Graph}
 use Rattle.model.specs.Lists.{Apart}

@@ -1,4 +1,4 @@
--- What a well_formed graph says of one of its segments.
+-- What a well-formed graph says of one of its segments.
 use Rattle.std.specs.Prelude.{ℕ, ◌<◌, ◌≤◌, length}
 use Rattle.model.specs.Canonical.{lasts}
 use Rattle.model.specs.Graph.{Segment}

@@ -1,4 +1,6 @@
 // What a core's clock can do, and the rules that pick a level.
+#![tactic(auto)]
+
 mod asked;
 mod check;
 mod even;

@@ -1,3 +1,5 @@
 // Examples of ladders, worked out by hand.
+#![tactic(auto)]
+
 #[cfg(test)]
 mod tests;

@@ -3,7 +3,7 @@
 //     listed SPEED,.. WORK LEVEL WINDOW                  a listed ladder; - where there are no speeds
 //     even LOWEST STEP COUNT WORK LEVEL WINDOW           an even ladder
 //     greedy TASK TIME FLOOR TOP                         the greedy policy
-//     twostep SWITCH FIRST SECOND TASK TIME FLOOR TOP    a two_step policy
+//     twostep SWITCH FIRST SECOND TASK TIME FLOOR TOP    a two-step policy
 //
 // A ladder that is refused answers its fault, and one that is made
 //
@@ -13,6 +13,8 @@
 // A policy answers
 //
 //     level L
+#![tactic(auto)]
+
 mod answer;
 mod ladders;
 mod policies;

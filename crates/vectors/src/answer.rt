@@ -1,7 +1,7 @@
 use anyhow::anyhow;
+use digits::read_word;
 use fault::Error;
 use graph::Graph;
-use digits::read_word;
 use number::read_number;
 use reader::read_graph;
 use std::alloc::Global;

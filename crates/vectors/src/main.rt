@@ -4,6 +4,8 @@
 //     plan HEX         the plan that the bytes describe, read and written again
 //
 // HEX is - where there are no bytes.
+#![tactic(auto)]
+
 mod answer;
 
 use answer::answer;

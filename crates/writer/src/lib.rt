@@ -1,4 +1,6 @@
 // The writer of plan bytes.
+#![tactic(auto)]
+
 mod plan;
 
 pub use plan::{graph_size, write_graph};
