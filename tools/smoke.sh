@@ -3,7 +3,7 @@
 set -u
 cd "$(dirname "$0")/.."
 . tools/held.sh
-program=(target/bin/bagplan)
+program=(crates/bagplan/out/bagplan)
 
 slow() { head -c 9 crates/bagplan/stdin && sleep 1 && tail -c +10 crates/bagplan/stdin; }
 

@@ -60,10 +60,10 @@ fn a_graph_shows_its_parts(rt: HostRuntime) -> Result<(), Fail> {
     assert_eq!(rt; graph.cores, 2);
     assert_eq!(rt; graph.deadline, 17);
     let first = graph.segments.first().ok_or("no segment")?;
-    assert!(rt; first.exits.as_slice() == &[1, 2]);
+    assert!(rt; first.exits.as_slice() == [1, 2].as_slice());
     let last = first.tasks.last().ok_or("no task")?;
     assert_eq!(rt; last.worst, 5);
-    assert!(rt; last.predecessors.as_slice() == &[0]);
+    assert!(rt; last.predecessors.as_slice() == [0].as_slice());
     assert!(rt; last.name.is_empty());
     Ok(())
 }

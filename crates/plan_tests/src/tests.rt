@@ -97,7 +97,7 @@ fn too_short_a_run_of_records_stays_as_it_was(rt: HostRuntime) -> Result<(), Fai
 fn the_tables_of_the_sample_bag(rt: HostRuntime) -> Result<(), Fail> {
     let heap = rt.alloc();
     let place = holding(heap, sample(heap, 17)?.as_slice())?;
-    assert!(rt; place.remaining.as_slice() == &[15, 6, 3]);
+    assert!(rt; place.remaining.as_slice() == [15, 6, 3].as_slice());
     assert_eq!(rt; place.shift(0), 2);
     assert_eq!(rt; place.shift(1), 11);
     assert_eq!(rt; place.shift(2), 14);

@@ -5,7 +5,6 @@ use Rattle.std.specs.List.{range_with_len, AllByRecursion as All}
 use Rattle.model.specs.Canonical.{Progress, running, taken, lasts, ready, before, pass, ready_tasks, next}
 use Rattle.model.specs.Graph.{Segment}
 use Rattle.model.specs.Lists.{In, has}
-use Rattle.model.specs.Places.{task}
 use Rattle.model.proofs.Counted.{below_in, in_below}
 use Rattle.model.proofs.Events.{lowest_free, next_starts, next_passes}
 use Rattle.model.proofs.Kept.{kept_in, in_kept, kept_none}
