@@ -41,8 +41,8 @@ module _ (count : ℕ) where
 
   -- the segment of number `own` of `segments`, where the plan may have so many tasks and predecessors more
   abbrev pub numbered_segment : ℕ → ℕ → ℕ → ℕ → List ℕ → Read Segment
-  numbered_segment segments own tasks-left left bs =
-      then (ranged 1 tasks-left bs) (λ many after_many.
+  numbered_segment segments own tasks_left left bs =
+      then (ranged 1 tasks_left bs) (λ many after_many.
       then (several (next_task left) many [] after_many) (λ tasks after_tasks.
       then (ranged 0 most_exits after_tasks) (λ ways after_ways.
       then (several (next_rising OutOfRange (own + 1) segments) ways [] after_ways) (λ exits rest.

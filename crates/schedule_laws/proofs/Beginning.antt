@@ -4,7 +4,7 @@ use Rattle.std.proofs.lemmas.List.{length_push, get_or_push, get_or_append_left}
 use Rattle.std.proofs.ByRecursion.{all_shuffled}
 use Rattle.std.proofs.lemmas.Bool.{cases_eq, cases_lt, eq-eqb, ne_eqb, lt-ltb, le-ltb, both_ways}
 use Rattle.std.specs.List.Sorted.{IsPermutation}
-use Rattle.std.specs.List.{AllByRecursion as All}
+use Rattle.std.specs.List.{AllByRecursion}
 use Rattle.model.specs.Canonical.{lasts, after}
 use Rattle.model.specs.Graph.{Segment}
 use Rattle.model.specs.Places.{task}
@@ -32,7 +32,7 @@ module _ (s : Segment) (i : ℕ) (R : List Ready) (W : List ℕ) (h : Beginning 
   begun_few = few_times (λ (e : Ready). e.task) i R (λ t. omega (arith, h.ready_once t, one_and (ltb t i) (eqb (awaits s t) 0)))
 
   pub begins_more : (R' : List Ready) → ((k : ℕ) → times (λ (e : Ready). e.task) k R' ≡ times (λ (e : Ready). e.task) k R + one (eqb i k && eqb (awaits s i) 0))
-      → All (λ (e : Ready). e.worst ≡ lasts s e.task) R' → Beginning s (i + 1) R' (W ++ (awaits s i ∷ []))
+      → AllByRecursion (λ (e : Ready). e.worst ≡ lasts s e.task) R' → Beginning s (i + 1) R' (W ++ (awaits s i ∷ []))
   begins_more R' new worsts' = record {
     counted = length_push W (awaits s i) ∙ ap (λ v. v + 1) h.counted;
     counts = λ t l. ⊎_elim

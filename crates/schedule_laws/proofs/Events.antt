@@ -1,7 +1,7 @@
 -- The next event of the model, by what stands.
 use Rattle.std.proofs.Common.{◌≡◌, ℕ, ◌<◌, Bool, true, false, not, ◌&&◌, ◌||◌, eqb, ltb, List, [], ◌∷◌, length, get_or, sym, refl, ap, ◌∙◌, inl, inr, arith}
 use Rattle.std.proofs.lemmas.Bool.{and_parts, and_from, ltb-true, lt-ltb, not_from_true}
-use Rattle.std.specs.List.{range_with_len, AllByRecursion as All}
+use Rattle.std.specs.List.{range_with_len, AllByRecursion}
 use Rattle.model.specs.Canonical.{Progress, running, taken, lasts, ready, before, pass, ready_tasks, next}
 use Rattle.model.specs.Graph.{Segment}
 use Rattle.model.specs.Lists.{In, has}
@@ -37,7 +37,7 @@ module _ (cores : ℕ) (s : Segment) (p : Progress) where
   pass_none R W T h = ap (λ l. pass s p l) (nothing_in (running p) (λ x i. (entry_for cores s p R [] W T h x i).1))
 
   -- a task starts
-  module _ (R : List Ready) (U : List Running) (W : List ℕ) (T : List Bool) (e : Ready) (h : Standing cores s p (e ∷ R) U W T) (first : All (λ x. ready_before x e ≡ false) (e ∷ R)) where
+  module _ (R : List Ready) (U : List Running) (W : List ℕ) (T : List Bool) (e : Ready) (h : Standing cores s p (e ∷ R) U W T) (first : AllByRecursion (λ x. ready_before x e ≡ false) (e ∷ R)) where
     own : In e.task (ready_tasks s p)
     own =
         let n = length s.tasks in

@@ -5,7 +5,7 @@ use Rattle.std.proofs.lemmas.List.Sorted.{sum_by-IsPermutation}
 use Rattle.std.proofs.lemmas.List.Sums.{sum_by-cons}
 use Rattle.std.proofs.lemmas.Bool.{cases_Bool, cases_eq, cases_lt, eqb-true, eq-eqb, ne_eqb, both_ways, cond_both, le-ltb}
 use Rattle.std.specs.List.Sorted.{IsPermutation}
-use Rattle.std.specs.List.{AllByRecursion as All}
+use Rattle.std.specs.List.{AllByRecursion}
 use Rattle.model.specs.Lists.{In, Apart, has}
 use Rattle.model.proofs.Counted.{few_below}
 use Rattle.model.proofs.Kept.{kept_in, map-in}
@@ -14,7 +14,7 @@ use Rattle.schedule_laws.specs.Counting.{one, times}
 use Rattle.schedule_laws.proofs.Ones.{one_most}
 
 module _ {A : Type 0} where
-  pub all_in_list : (P : A → Type 0) (xs : List A) (x : A) → All P xs → In x xs → P x
+  pub all_in_list : (P : A → Type 0) (xs : List A) (x : A) → AllByRecursion P xs → In x xs → P x
   all_in_list P [] x a i = absurd i
   all_in_list P (y ∷ ys) x a (inl e) = subst (λ z. P z) (sym e) a.0
   all_in_list P (y ∷ ys) x a (inr i) = all_in_list P ys x a.1 i

@@ -3,7 +3,7 @@ use Rattle.std.proofs.Common.{◌≡◌, ℕ, ◌≤◌, Bool, true, false, not,
 use Rattle.std.proofs.ByRecursion.{All-weaker, all_shuffled}
 use Rattle.std.proofs.lemmas.Bool.{cases_Bool, or_cases, or_right, or_parts, eqb-true, eq-eqb, ltb-false, not_from_false}
 use Rattle.std.specs.List.Sorted.{IsPermutation}
-use Rattle.std.specs.List.{AllByRecursion as All}
+use Rattle.std.specs.List.{AllByRecursion}
 use Rattle.model.specs.Canonical.{Start, Progress, begun, running, end_of}
 use Rattle.model.specs.Graph.{Segment}
 use Rattle.model.specs.Lists.{In, has}
@@ -51,10 +51,10 @@ no_earlier u e f = ltb-false u.end e.end (or_parts (ltb u.end e.end) (eqb u.end 
 
 module _ (cores : ℕ) (s : Segment) (p : Progress) (R : List Ready) (W : List ℕ) (T : List Bool) where
   -- the earliest entry is taken
-  pub pass_begins : (U U' : List Running) (e : Running) → Standing cores s p R U W T → IsPermutation U (e ∷ U') → All (λ x. running_before x e ≡ false) U → Passing cores s p e.end p.ended R (e ∷ U') W T
+  pub pass_begins : (U U' : List Running) (e : Running) → Standing cores s p R U W T → IsPermutation U (e ∷ U') → AllByRecursion (λ x. running_before x e ≡ false) U → Passing cores s p e.end p.ended R (e ∷ U') W T
   pass_begins U U' e h moved first =
       let h' = running_moved cores s p R U W T h (e ∷ U') moved in
-      let late : All (λ (u : Running). e.end ≤ u.end) U = All-weaker (λ (x : Running). running_before x e ≡ false) (λ (u : Running). e.end ≤ u.end) (λ x f. no_earlier x e f) U first in
+      let late : AllByRecursion (λ (u : Running). e.end ≤ u.end) U = All-weaker (λ (x : Running). running_before x e ≡ false) (λ (u : Running). e.end ≤ u.end) (λ x f. no_earlier x e f) U first in
       let o = start_for cores s p R (e ∷ U') W T h' e (inl refl) in
       let known = kept_in (λ (y : Start). not (has p.ended y.task)) p.starts o.0 o.1 in
       record {
@@ -161,7 +161,7 @@ module _ (cores : ℕ) (s : Segment) (p : Progress) (m : ℕ) (ended : List ℕ)
 
 -- the entry that comes first ends later, so all that are left do
 pub pass_over : (cores : ℕ) (s : Segment) (p : Progress) (m : ℕ) (ended : List ℕ) (R : List Ready) (U : List Running) (W : List ℕ) (T : List Bool) (e : Running)
-    → Passing cores s p m ended R (e ∷ U) W T → (e.end ≡ m → ⊥) → All (λ x. running_before x e ≡ false) (e ∷ U) → Standing cores s (time_passed s p) R (e ∷ U) W T
+    → Passing cores s p m ended R (e ∷ U) W T → (e.end ≡ m → ⊥) → AllByRecursion (λ x. running_before x e ≡ false) (e ∷ U) → Standing cores s (time_passed s p) R (e ∷ U) W T
 pass_over cores s p m ended R U W T e h over' first = pass_all cores s p m ended R (e ∷ U) W T h (λ u i q.
     let l = no_earlier u e (all_in_list (λ (x : Running). running_before x e ≡ false) (e ∷ U) u first i) in
     let n = h.later.0 in

@@ -5,7 +5,7 @@ use Rattle.std.proofs.ByRecursion.{all_shuffled}
 use Rattle.std.proofs.lemmas.Bool.{cases_eq, cases_lt, eq-eqb, ne_eqb, lt-ltb}
 use Rattle.std.proofs.lemmas.Bool.Decides.{nat_tests}
 use Rattle.std.specs.List.Sorted.{IsPermutation}
-use Rattle.std.specs.List.{AllByRecursion as All}
+use Rattle.std.specs.List.{AllByRecursion}
 use Rattle.model.specs.Canonical.{lasts}
 use Rattle.model.specs.Graph.{Segment}
 use Rattle.queue.specs.declared.kinds.Ready.{Ready}
@@ -44,7 +44,7 @@ module _ (s : Segment) (fs W V : List ℕ) (R Q : List Ready) (t i : ℕ) (turn 
   inside = ⊎_elim (λ l. l) (λ l. absurd (omega (arith, waits, get_or_past V t 0 l))) (cases_lt t (length V))
 
   pub released_more : (Q' : List Ready) → ((k : ℕ) → times (λ (e : Ready). e.task) k Q' ≡ times (λ (e : Ready). e.task) k Q + one (eqb t k && eqb (get_or V t 0 - 1) 0))
-      → (All (λ (e : Ready). e.worst ≡ lasts s e.task) Q → All (λ (e : Ready). e.worst ≡ lasts s e.task) Q')
+      → (AllByRecursion (λ (e : Ready). e.worst ≡ lasts s e.task) Q → AllByRecursion (λ (e : Ready). e.worst ≡ lasts s e.task) Q')
       → Released s (take (i + 1) fs) W (set V t (get_or V t 0 - 1)) R Q'
   released_more Q' new worsts' =
       let w = get_or V t 0 - 1 in

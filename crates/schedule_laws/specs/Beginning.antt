@@ -1,6 +1,6 @@
 -- The state before the first event, made task by task.
 use Rattle.std.specs.Prelude.{◌≡◌, ℕ, ◌<◌, ◌&&◌, List, length, ◌==◌, nat_lt, slice_index}
-use Rattle.std.specs.List.{AllByRecursion as All}
+use Rattle.std.specs.List.{AllByRecursion}
 use Rattle.model.specs.Canonical.{lasts}
 use Rattle.model.specs.Graph.{Segment}
 use Rattle.model.specs.Places.{task}
@@ -12,4 +12,4 @@ pub record Beginning (s : Segment) (i : ℕ) (R : List Ready) (W : List ℕ) : T
   pub counted : length W ≡ i
   pub counts : (t : ℕ) → t < i → slice_index W t ≡ length (task s t).predecessors
   pub ready_once : (t : ℕ) → times (λ (e : Ready). e.task) t R ≡ one (nat_lt t i && length (task s t).predecessors == 0)
-  pub worsts : All (λ (e : Ready). e.worst ≡ lasts s e.task) R
+  pub worsts : AllByRecursion (λ (e : Ready). e.worst ≡ lasts s e.task) R

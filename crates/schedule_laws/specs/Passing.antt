@@ -1,6 +1,6 @@
 -- Time passes: it moves to the earliest end, and the tasks that end then end one by one, in whatever order.
 use Rattle.std.specs.Prelude.{◌≡◌, ℕ, ◌≤◌, Bool, true, ◌⊎◌, List}
-use Rattle.std.specs.List.{AllByRecursion as All}
+use Rattle.std.specs.List.{AllByRecursion}
 use Rattle.model.specs.Canonical.{Start, Progress, running, end_of, pass}
 use Rattle.model.specs.Graph.{Segment}
 use Rattle.model.specs.Lists.{In, has}
@@ -24,4 +24,4 @@ pub record Passing (cores : ℕ) (s : Segment) (p : Progress) (m : ℕ) (ended :
   -- m is the earliest end
   pub one_ends : (x : Start) × In x (running p) × (end_of s x ≡ m)
   pub none_earlier : (x : Start) → In x (running p) → m ≤ end_of s x
-  pub later : All (λ (u : Running). m ≤ u.end) U
+  pub later : AllByRecursion (λ (u : Running). m ≤ u.end) U
