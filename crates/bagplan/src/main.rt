@@ -3,9 +3,9 @@
 
 mod report;
 
-use anyhow::anyhow;
 use report::report_on;
 use std::io::Read;
+use std::process::ExitCode;
 
 // As many bytes are read; later ones are not.
 const MOST: u64 = 16_384;
@@ -20,10 +20,10 @@ fn run(rt: &HostRuntime) -> anyhow::Result<bool> {
 }
 
 // A refusal is printed on standard output, and ends the program with status 1.
-fn main(rt: HostRuntime) -> anyhow::Result<()> {
-    match run(&rt) {
-        Ok(true) => Ok(()),
-        Ok(false) => Err(anyhow!("the plan is refused")),
-        Err(e) => Err(e),
+fn main(rt: HostRuntime) -> anyhow::Result<ExitCode> {
+    if run(&rt)? {
+        Ok(ExitCode::SUCCESS)
+    } else {
+        Ok(ExitCode::FAILURE)
     }
 }
