@@ -1,6 +1,6 @@
 /* Bolgtun for programs in C: judges the bytes of a plan, which docs/FORMAT.md describes.
 
-   `make recorder` builds target/staticlib/librecorder.a; link it, and lib/librattle_c.a of the Rattle kit after it. */
+   `make recorder` builds target/staticlib/librecorder.a; link it, and c/liblibc_c.a of the Rattle kit after it. */
 #ifndef BOLGTUN_H
 #define BOLGTUN_H
 

@@ -43,11 +43,11 @@ module _ {X : Type 0} (item : List X → List ℕ → Read X) where
 module _ (count : ℕ) where
   number_carded : (bs : List ℕ) → Carded (number count bs)
   unfolding number
-  number_carded bs = judged-carded (groups bs)
+  number_carded bs = judged_carded (groups bs)
     where
-      judged-carded : (o : Option (List ℕ × List ℕ)) → Carded (judged count (at count bs) o)
-      judged-carded None = err_carded (fault BytesEnd count) refl
-      judged-carded (Some x) = cond_carded _ (Ok (value x.0, x.1)) (Err (fault NumberForm (at count bs))) (ok_carded (value x.0, x.1)) (err_carded (fault NumberForm (at count bs)) refl)
+      judged_carded : (o : Option (List ℕ × List ℕ)) → Carded (judged count (at count bs) o)
+      judged_carded None = err_carded (fault BytesEnd count) refl
+      judged_carded (Some x) = cond_carded _ (Ok (value x.0, x.1)) (Err (fault NumberForm (at count bs))) (ok_carded (value x.0, x.1)) (err_carded (fault NumberForm (at count bs)) refl)
 
   ranged_carded : (low high : ℕ) (bs : List ℕ) → Carded (ranged count low high bs)
   ranged_carded low high bs =

@@ -1,8 +1,8 @@
 -- The canonical schedule ends, and by then every task has begun.
-use Rattle.std.proofs.Common.{◌≡◌, ℕ, zero, suc, ◌+◌, ◌*◌, ◌<◌, ◌≤◌, not, ◌⊎◌, List, [], ◌∷◌, length, sym, refl, ap, ◌∙◌, subst, inl, inr, ⊎_elim, arith, length-append}
+use Rattle.std.proofs.Common.{◌≡◌, ℕ, zero, suc, ◌+◌, ◌-◌, ◌*◌, ◌<◌, ◌≤◌, not, ◌⊎◌, List, [], ◌∷◌, length, sym, refl, ap, ◌∙◌, subst, inl, inr, ⊎_elim, arith, length-append}
 use Rattle.std.specs.List.{range_with_len}
 use Rattle.std.proofs.lemmas.List.{length-map, nil_from_length}
-use Rattle.std.proofs.lemmas.Bool.{and_left, not_from_true}
+use Rattle.std.proofs.lemmas.Bool.{and_left, not_from_true, cases_lt}
 use Rattle.model.specs.Canonical.{Start, Progress, begun, running, free_cores, ready, ready_tasks, first_of, pass, event, next, after}
 use Rattle.model.specs.Graph.{Segment}
 use Rattle.model.specs.Lists.{has, all_in, In}
@@ -24,6 +24,12 @@ module _ (cores : ℕ) (s : Segment) where
   -- then nothing happens
   pub still_next : (q : Progress) → Still q → next cores s q ≡ q
   still_next q still = next_passes cores s q (inr still.1) ∙ ap (λ (r : List Start). pass s q r) still.0
+
+  pub still_after : (n k : ℕ) → Still (after cores s n) → after cores s (k + n) ≡ after cores s n
+  still_after n zero still = ap (λ m. after cores s m) (let e : 0 + n ≡ n = omega arith in e)
+  still_after n (suc k) still =
+      let e : suc k + n ≡ suc (k + n) = omega arith in
+      ap (λ m. after cores s m) e ∙ ap (λ (q : Progress). next cores s q) (still_after n k still) ∙ still_next (after cores s n) still
 
   -- two events for each task are all of them
   all_come : (q : Progress) → Steady cores s q → 2 * length s.tasks + length (running q) ≤ 2 * length q.starts → Still q
@@ -74,13 +80,13 @@ module _ (cores : ℕ) (s : Segment) where
           come
 
       event_come : (cs ts : List ℕ) → cs ≡ free_cores cores q → ts ≡ ready_tasks s q → ComeTo (suc n) (event s q cs ts)
-      event_come [] ts are-free are-ready = pass_come (running q) refl (inl (sym are-free))
-      event_come (c ∷ cs) [] are-free are-ready = pass_come (running q) refl (inr (sym are-ready))
-      event_come (c ∷ cs) (t ∷ ts) are-free are-ready =
+      event_come [] ts are_free are_ready = pass_come (running q) refl (inl (sym are_free))
+      event_come (c ∷ cs) [] are_free are_ready = pass_come (running q) refl (inr (sym are_ready))
+      event_come (c ∷ cs) (t ∷ ts) are_free are_ready =
           let x : Start = record { task = first_of s t ts; at = q.moment; core = c } in
           ⊎_elim
-          (λ h. inl (omega (arith, h, ap length (started_runs cores s q steady c cs are-free t ts are-ready), length-append (running q) (x ∷ []), length-append q.starts (x ∷ []))))
-          (λ still. absurd (omega (arith, ap length are-ready, ap length still.1)))
+          (λ h. inl (omega (arith, h, ap length (started_runs cores s q steady c cs are_free t ts are_ready), length-append (running q) (x ∷ []), length-append q.starts (x ∷ []))))
+          (λ still. absurd (omega (arith, ap length are_ready, ap length still.1)))
           come
 
     come_after : (n : ℕ) → ComeTo n (after cores s n)
@@ -93,3 +99,12 @@ module _ (cores : ℕ) (s : Segment) where
     still_at_last =
         let n = 2 * length s.tasks in
         ⊎_elim (λ c. all_come (after cores s n) (steady_after cores s n) c) (λ still. still) (come_after n)
+
+    -- so a schedule at which nothing is left to happen is where the canonical schedule ends
+    pub still_is_last : (n : ℕ) → Still (after cores s n) → after cores s n ≡ after cores s (2 * length s.tasks)
+    still_is_last n still =
+        let last = 2 * length s.tasks in
+        ⊎_elim
+        (λ (l : n < last). let e : (last - n) + n ≡ last = omega arith in sym (ap (λ m. after cores s m) (sym e) ∙ still_after n (last - n) still))
+        (λ (l : last ≤ n). let e : (n - last) + last ≡ n = omega arith in ap (λ m. after cores s m) (sym e) ∙ still_after last (n - last) still_at_last)
+        (cases_lt n last)

@@ -53,9 +53,9 @@ module _ (cores : ℕ) (s : Segment) (q : Progress) where
     pass_steady (x ∷ xs) are wait = steady_pass cores s q steady x xs are wait
 
     event_steady : (cs ts : List ℕ) → cs ≡ free_cores cores q → ts ≡ ready_tasks s q → Steady cores s (event s q cs ts)
-    event_steady [] ts are-free are-ready = pass_steady (running q) refl (inl (sym are-free))
-    event_steady (c ∷ cs) [] are-free are-ready = pass_steady (running q) refl (inr (sym are-ready))
-    event_steady (c ∷ cs) (t ∷ ts) are-free are-ready = steady_start cores s q steady c cs are-free t ts are-ready
+    event_steady [] ts are_free are_ready = pass_steady (running q) refl (inl (sym are_free))
+    event_steady (c ∷ cs) [] are_free are_ready = pass_steady (running q) refl (inr (sym are_ready))
+    event_steady (c ∷ cs) (t ∷ ts) are_free are_ready = steady_start cores s q steady c cs are_free t ts are_ready
 
     pub steady_next : Steady cores s (next cores s q)
     steady_next = event_steady (free_cores cores q) (ready_tasks s q) refl refl

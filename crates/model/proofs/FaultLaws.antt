@@ -47,10 +47,10 @@ stopped_at f bs s =
     }
 
 pub faults_stand_at_their_numbers : FaultsStandAtTheirNumbers
-faults_stand_at_their_numbers f bs of_it e = at-its-number (reading_refused f bs e)
+faults_stand_at_their_numbers f bs of_it e = at_its_number (reading_refused f bs e)
   where
-    at-its-number : Refused f bs → AtItsNumber f bs
-    at-its-number (bytes_end is) = let b = between f.kind of_it in absurd (omega (arith, b, ap number is))
-    at-its-number (at_a_number s) = stopped_at f bs s
-    at-its-number (bytes_follow is) = let b = between f.kind of_it in absurd (omega (arith, b, ap number is))
-    at-its-number (no_entry g read is first) = let b = between f.kind of_it in absurd (omega (arith, b, ap number is))
+    at_its_number : Refused f bs → AtItsNumber f bs
+    at_its_number (bytes_end is) = let b = between f.kind of_it in absurd (omega (arith, b, ap number is))
+    at_its_number (at_a_number s) = stopped_at f bs s
+    at_its_number (bytes_follow is) = let b = between f.kind of_it in absurd (omega (arith, b, ap number is))
+    at_its_number (no_entry g read is first) = let b = between f.kind of_it in absurd (omega (arith, b, ap number is))

@@ -22,11 +22,11 @@ use Rattle.model.proofs.Taken.{Takes}
 -- bytes that are no number: they end first, or are refused at their first byte
 number_refused : (count : ℕ) (bs : List ℕ) (f : Fault) → number count bs ≡ Err f → (f ≡ fault BytesEnd count) ⊎ Stopped number f count bs
 unfolding number
-number_refused count bs f e = judged-refused (groups bs) refl e
+number_refused count bs f e = judged_refused (groups bs) refl e
   where
-    judged-refused : (o : Option (List ℕ × List ℕ)) → groups bs ≡ o → judged count (at count bs) o ≡ Err f → (f ≡ fault BytesEnd count) ⊎ Stopped number f count bs
-    judged-refused None are j = inl (cc)
-    judged-refused (Some x) are j =
+    judged_refused : (o : Option (List ℕ × List ℕ)) → groups bs ≡ o → judged count (at count bs) o ≡ Err f → (f ≡ fault BytesEnd count) ⊎ Stopped number f count bs
+    judged_refused None are j = inl (cc)
+    judged_refused (Some x) are j =
         let own = grouped bs x are in
         cond_both (fewest x.0 && ltb (value x.0) 4294967296) (Ok (value x.0, x.1)) (Err (fault NumberForm (at count bs)))
         (λ r. r ≡ Err f → (f ≡ fault BytesEnd count) ⊎ Stopped number f count bs)

@@ -15,7 +15,7 @@ use Rattle.model.proofs.Members.{in_front, in_push, apart_push, not_has, in_or_n
 use Rattle.model.proofs.Steady.{Placed, Steady, out_true, in_running, free_in, ready_in, in_ready, room}
 
 module _ (cores : ℕ) (s : Segment) (q : Progress) (steady : Steady cores s q)
-    (c : ℕ) (cs : List ℕ) (are-free : c ∷ cs ≡ free_cores cores q) (t : ℕ) (ts : List ℕ) (are-ready : t ∷ ts ≡ ready_tasks s q) where
+    (c : ℕ) (cs : List ℕ) (are_free : c ∷ cs ≡ free_cores cores q) (t : ℕ) (ts : List ℕ) (are_ready : t ∷ ts ≡ ready_tasks s q) where
   abbrev new : Start
   new = record { task = first_of s t ts; at = q.moment; core = c }
 
@@ -23,10 +23,10 @@ module _ (cores : ℕ) (s : Segment) (q : Progress) (steady : Steady cores s q)
   started = record { moment = q.moment; starts = q.starts ++ (new ∷ []); ended = q.ended }
 
   free : In c (free_cores cores q)
-  free = subst (λ (l : List ℕ). In c l) are-free (inl refl)
+  free = subst (λ (l : List ℕ). In c l) are_free (inl refl)
 
   may : (new.task < length s.tasks) × (In new.task (begun q.starts) → ⊥) × ((u : ℕ) → In u (task s new.task).predecessors → In u q.ended)
-  may = ready_in s q new.task (subst (λ (l : List ℕ). In new.task l) are-ready (first_in s t ts))
+  may = ready_in s q new.task (subst (λ (l : List ℕ). In new.task l) are_ready (first_in s t ts))
 
   not_ended : In new.task q.ended → ⊥
   not_ended i = may.1 (steady.known new.task i)
@@ -61,7 +61,7 @@ module _ (cores : ℕ) (s : Segment) (q : Progress) (steady : Steady cores s q)
             (λ j. rw g.2 at j)
             (λ n. absurd (⊎_elim (λ l. omega (arith, l, g.4)) (λ e. omega (arith, e, g.3)) (steady.going g.0 g.1 n)))
             (in_or_not q.ended g.0.task) in
-            first_before s t ts u (subst (λ (l : List ℕ). In u l) (sym are-ready) (in_ready s q u below fresh over)) other;
+            first_before s t ts u (subst (λ (l : List ℕ). In u l) (sym are_ready) (in_ready s q u below fresh over)) other;
       }
 
   pub started_runs : running started ≡ running q ++ (new ∷ [])

@@ -89,7 +89,7 @@ module _ (cores : ℕ) (s : Segment) where
     pub begun_below : (t : ℕ) → In t (begun q.starts) → t < length s.tasks
     begun_below t i = let m = map-in (λ (y : Start). y.task) t q.starts i in rw m.2 at (steady.only m.0 m.1)
 
-    -- no more tasks have begun than there are
+    -- no more tasks have begun than there are, and no more run than there are cores
     pub few_starts : length q.starts ≤ length s.tasks
     few_starts = omega (arith, length-map q.starts (λ (y : Start). y.task), few_below (begun q.starts) (length s.tasks) steady.once begun_below)
 
@@ -97,6 +97,9 @@ module _ (cores : ℕ) (s : Segment) where
     taken_below c i =
         let m = map-in (λ (y : Start). y.core) c (running q) i in
         rw m.2 at (steady.own m.0 (running_in q m.0 m.1).0)
+
+    pub few_running : length (running q) ≤ cores
+    few_running = omega (arith, length-map (running q) (λ (y : Start). y.core), few_below (taken (running q)) cores steady.parted taken_below)
 
     -- fewer run exactly where a core is free
     pub room : (c : ℕ) → In c (free_cores cores q) → length (running q) < cores

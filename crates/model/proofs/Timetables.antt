@@ -6,10 +6,10 @@ use Rattle.model.specs.Accepting.{Accepted}
 use Rattle.model.specs.Canonical.{Start, no_start, begun, lasts, end_of, canonical, order, nth, length_of}
 use Rattle.model.specs.Graph.{Graph, Segment}
 use Rattle.model.specs.Lists.{In, Apart}
-use Rattle.model.specs.Places.{task, segment, count, exits_of}
+use Rattle.model.specs.Places.{task, segment, count, exits_of, Formed}
 use Rattle.model.specs.PlanLaws.{AcceptedPlansHaveTimetables}
 use Rattle.model.specs.ScheduleLaws.{ends_after}
-use Rattle.model.specs.Times.{start_of, shift}
+use Rattle.model.specs.Times.{start_of, shift, needed, order_of, latest_end}
 use Rattle.model.proofs.Kept.{in_kept, in_map, map-in}
 use Rattle.model.proofs.LengthLaws.{length-remains, every_exit_fits, no_segment_needs_more}
 use Rattle.model.proofs.Members.{at_place, place_before, apart_places, no_longer}
@@ -127,3 +127,10 @@ accepted_plans_have_timetables g a =
           (every_segment_fits g a e inside, omega (arith, every_exit_fits g f s e fits.0 (at_place 0 (exits_of g s) i j), (every_segment_fits g a e inside).1, fits.1));
       in_deadline = λ s fits. omega (arith, length-remains g s fits.0, fits.1);
     }
+
+-- so no task of the graph ends after the deadline
+pub every_end_in_deadline : (g : Graph) → Formed g → needed g ≤ g.deadline → (s t : ℕ) → s < count g → In t (order_of g s) → latest_end g s t ≤ g.deadline
+every_end_in_deadline g f within s t h i =
+    let accepted : Accepted g = record { formed = f; in_time = within } in
+    let laid = accepted_plans_have_timetables g accepted in
+    omega (arith, (laid.table s).closes t i, laid.in_deadline s (every_segment_fits g accepted s h))

@@ -1,6 +1,5 @@
 -- What starts and timelines mean.
-use Rattle.std.specs.Prelude.{ℕ, List, map, vec_items}
-use Rattle.model.specs.Accepting.{tasks_of_largest}
+use Rattle.std.specs.Prelude.{ℕ, max, List, [], ◌∷◌, map, length, vec_items}
 use Rattle.model.specs.Canonical as canon
 use Rattle.model.specs.Graph.{Segment}
 use Rattle.schedule.specs.declared.parts.Start.{Start}
@@ -23,4 +22,5 @@ planned cores s = record { starts = canon.canonical cores s; length = canon.leng
 
 -- how many tasks the largest of some segments has
 abbrev pub most_tasks : List Segment → ℕ
-most_tasks ss = tasks_of_largest ss
+most_tasks [] = 0
+most_tasks (s ∷ ss) = max (length s.tasks) (most_tasks ss)

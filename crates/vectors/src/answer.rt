@@ -1,5 +1,5 @@
+use crate::hex::unhex;
 use anyhow::anyhow;
-use digits::read_word;
 use fault::Error;
 use graph::Graph;
 use number::read_number;
@@ -13,14 +13,24 @@ pub fn answer(heap: Global, line: &str) -> anyhow::Result<String> {
     let kind = words.next().unwrap_or("");
     if kind == "number" {
         let at = words.next().unwrap_or("").parse::<usize>()?;
-        let bytes = read_word(heap, words.next().unwrap_or(""))?;
+        let bytes = read_bytes(heap, words.next().unwrap_or(""))?;
         return answer_number(heap, bytes.as_slice(), at);
     }
     if kind == "plan" {
-        let bytes = read_word(heap, words.next().unwrap_or(""))?;
+        let bytes = read_bytes(heap, words.next().unwrap_or(""))?;
         return answer_plan(heap, bytes.as_slice());
     }
     Err(anyhow!("neither a number nor a plan"))
+}
+
+fn read_bytes(heap: Global, text: &str) -> anyhow::Result<Vec<u8>> {
+    if text == "-" {
+        return Ok(Vec::new(heap));
+    }
+    match unhex(heap, text)? {
+        Some(bytes) => Ok(bytes),
+        None => Err(anyhow!("not hexadecimal")),
+    }
 }
 
 fn answer_number(heap: Global, bytes: &[u8], at: usize) -> anyhow::Result<String> {

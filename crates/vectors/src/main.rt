@@ -7,6 +7,7 @@
 #![tactic(auto)]
 
 mod answer;
+mod hex;
 
 use answer::answer;
 use std::io::{BufRead, BufReader};

@@ -5,12 +5,11 @@ use Rattle.fault.specs.declared.kind.Fault.{Fault}
 use Rattle.graph.specs.Meaning.{segment_of}
 use Rattle.graph.specs.Whole.{graph_of}
 use Rattle.model.proofs.PlaceLaws.{well_formed_place_by_place}
-use Rattle.model.proofs.PlanLaws.{largest_each}
 use Rattle.model.specs.Places.{no_segment, segment}
 use Rattle.schedule_laws.proofs.Bounding.{bounded}
 use Rattle.schedule_laws.specs.Bounds.{Bounded}
-use Rattle.model.specs.Accepting.{tasks_of_largest}
-use Rattle.schedule.specs.Meaning.{Plan, timeline_of, planned}
+use Rattle.schedule.specs.Meaning.{Plan, timeline_of, planned, most_tasks}
+use Rattle.schedule.proofs.Largest.{most_tasks_each}
 use Rattle.schedule.proofs.segments.schedule.Goals as goal
 
 pub timeline-requires : goal.timeline-requires
@@ -23,9 +22,9 @@ timeline-requires c =
     let low : i < length items = omega (arith, c.loop-segment-test.true, ap length value) in
     let inside : i < length (map segment_of items) = omega (arith, low, length-map items segment_of) in
     let read : segment (graph_of g) i ≡ segment_of x = get_or-map segment_of items i x no_segment low ∙ ap segment_of (sym (c.segment-item.is ∙ ap (λ l. get_or l i x) value)) in
-    let most = ap (λ l. tasks_of_largest (map segment_of l)) c.as_slice.ensures.value in record {
+    let most = ap (λ l. most_tasks (map segment_of l)) c.as_slice.ensures.value in record {
       bounded = subst (λ s. Bounded g.cores s) read (bounded (graph_of g) (well_formed_place_by_place (graph_of g) g.formed) i inside);
-      ready_room = omega (arith, largest_each (map segment_of items) i inside, ap (λ s. length s.tasks) read, most, c.most_tasks-tasks.ensures, c.if-ready-tasks.false, c.loop-segment.auto.ready);
+      ready_room = omega (arith, most_tasks_each (map segment_of items) i inside, ap (λ s. length s.tasks) read, most, c.most_tasks-tasks.ensures, c.if-ready-tasks.false, c.loop-segment.auto.ready);
       running_room = omega (arith, c.if-running-cores.false, c.loop-segment.auto.running);
     }
 
@@ -50,11 +49,11 @@ pub returns : goal.returns
 returns c =
     let g = c.args.graph.now in
     let items = vec_items g.segments in
-    let most = ap (λ l. tasks_of_largest (map segment_of l)) c.as_slice.ensures.value in
+    let most = ap (λ l. most_tasks (map segment_of l)) c.as_slice.ensures.value in
     let all = take_all c.loop-segment.segment-index items (omega (arith, c.loop-segment-test.false, ap length c.as_slice-segment-items.ensures.value)) in
     record {
       answer =
-          cond-false _ _ _ (le-ltb (length c.args.ready.now) (tasks_of_largest (map segment_of items)) (omega (arith, most, c.most_tasks-tasks.ensures, c.if-ready-tasks.false)))
+          cond-false _ _ _ (le-ltb (length c.args.ready.now) (most_tasks (map segment_of items)) (omega (arith, most, c.most_tasks-tasks.ensures, c.if-ready-tasks.false)))
           ∙ cond-false _ _ _ (le-ltb (length c.args.running.now) g.cores c.if-running-cores.false)
           ∙ ap {B = Result (List Plan) Fault} (λ l. Ok l) (sym (c.loop-segment.invariant ∙ ap (λ l. map (planned g.cores) (map segment_of l)) all));
       kept = tt;
