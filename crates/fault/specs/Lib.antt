@@ -1,3 +1,4 @@
 pub mod Answers
 pub mod Card
+pub mod Room
 pub mod Shown

@@ -1,5 +1,5 @@
 ghost use Rattle.std.specs.Prelude.{◌≡◌};
-ghost use Rattle.fault.specs.Card.{number, layer};
+ghost use Rattle.fault.specs.Card.{number, layer, fault};
 
 // The part of the product that refuses.
 #[derive(Clone, Copy, PartialEq, Eq, Debug)]
@@ -13,22 +13,22 @@ pub enum Layer {
 // One line of the fault card.
 #[derive(Clone, Copy, PartialEq, Eq, Debug)]
 pub enum Kind {
-    BytesEnd,
-    NumberForm,
-    OutOfRange,
-    NotRising,
-    TrailingBytes,
-    NoEntry,
-    TooSmall,
-    OverDeadline,
-    LadderForm,
-    StartDue,
-    NoStartDue,
-    CoreIdle,
-    BeforeClock,
-    AfterPromise,
-    NoChoiceDue,
-    NoExit,
+    BytesEnd = 1,
+    NumberForm = 2,
+    OutOfRange = 3,
+    NotRising = 4,
+    TrailingBytes = 5,
+    NoEntry = 6,
+    TooSmall = 7,
+    OverDeadline = 8,
+    LadderForm = 9,
+    StartDue = 10,
+    NoStartDue = 11,
+    CoreIdle = 12,
+    BeforeClock = 13,
+    AfterPromise = 14,
+    NoChoiceDue = 15,
+    NoExit = 16,
 }
 
 impl Kind {
@@ -36,24 +36,7 @@ impl Kind {
     pub fn number(self) -> u8
         ensures { result ≡ number self }
     {
-        match self {
-            Kind::BytesEnd => 1,
-            Kind::NumberForm => 2,
-            Kind::OutOfRange => 3,
-            Kind::NotRising => 4,
-            Kind::TrailingBytes => 5,
-            Kind::NoEntry => 6,
-            Kind::TooSmall => 7,
-            Kind::OverDeadline => 8,
-            Kind::LadderForm => 9,
-            Kind::StartDue => 10,
-            Kind::NoStartDue => 11,
-            Kind::CoreIdle => 12,
-            Kind::BeforeClock => 13,
-            Kind::AfterPromise => 14,
-            Kind::NoChoiceDue => 15,
-            Kind::NoExit => 16,
-        }
+        self as u8
     }
 
     // The layer that refuses with this line of the card.
@@ -77,6 +60,13 @@ impl Kind {
             | Kind::NoChoiceDue
             | Kind::NoExit => Layer::Frame,
         }
+    }
+
+    // A refusal of this kind, with the place that it carries.
+    pub fn at(self, place: u64) -> Fault
+        ensures { result ≡ fault self place }
+    {
+        Fault { kind: self, place }
     }
 }
 

@@ -4,6 +4,8 @@
 mod error;
 mod kind;
 mod print;
+mod room;
 
 pub use error::Error;
 pub use kind::{Fault, Kind, Layer};
+pub use room::room_for;
