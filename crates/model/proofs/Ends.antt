@@ -3,7 +3,7 @@ use Rattle.std.proofs.Common.{◌≡◌, ℕ, zero, suc, ◌+◌, ◌-◌, ◌*�
 use Rattle.std.specs.List.{range_with_len}
 use Rattle.std.proofs.lemmas.List.{length-map, nil_from_length}
 use Rattle.std.proofs.lemmas.Bool.{and_left, not_from_true, cases_lt}
-use Rattle.model.specs.Canonical.{Start, Progress, begun, running, free_cores, ready, ready_tasks, first_of, pass, event, next, after}
+use Rattle.model.specs.Canonical.{Start, Progress, begun, running, free_cores, ready, ready_tasks, foremost, pass, event, next, after}
 use Rattle.model.specs.Graph.{Segment}
 use Rattle.model.specs.Lists.{has, all_in, In}
 use Rattle.model.specs.Places.{task}
@@ -83,7 +83,7 @@ module _ (cores : ℕ) (s : Segment) where
       event_come [] ts are_free are_ready = pass_come (running q) refl (inl (sym are_free))
       event_come (c ∷ cs) [] are_free are_ready = pass_come (running q) refl (inr (sym are_ready))
       event_come (c ∷ cs) (t ∷ ts) are_free are_ready =
-          let x : Start = record { task = first_of s t ts; at = q.moment; core = c } in
+          let x : Start = record { task = foremost s t ts; at = q.moment; core = c } in
           ⊎_elim
           (λ h. inl (omega (arith, h, ap length (started_runs cores s q steady c cs are_free t ts are_ready), length-append (running q) (x ∷ []), length-append q.starts (x ∷ []))))
           (λ still. absurd (omega (arith, ap length are_ready, ap length still.1)))

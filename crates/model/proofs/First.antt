@@ -4,7 +4,7 @@ use Rattle.std.specs.Cmp.{IsStrictWeakOrder}
 use Rattle.std.proofs.lemmas.List.MinMax.{IsStrictWeakOrder-by_number}
 use Rattle.std.proofs.lemmas.Bool.{both_ways, cases_eq, eqb-true, ltb-true, ltb-false, and_parts, or_cases}
 use Rattle.std.proofs.lemmas.Bool.Decides.{nat_tests}
-use Rattle.model.specs.Canonical.{Start, end_of, before, first_of, soonest}
+use Rattle.model.specs.Canonical.{Start, end_of, before, foremost, soonest}
 use Rattle.model.specs.Graph.{Segment}
 use Rattle.model.specs.Lists.{In}
 use Rattle.model.specs.Places.{task}
@@ -32,18 +32,18 @@ module _ (s : Segment) where
         chain = λ t u v e f. grind (arith, nat_tests);
       }
 
-  pub first_in : (t : ℕ) (ts : List ℕ) → In (first_of s t ts) (t ∷ ts)
+  pub first_in : (t : ℕ) (ts : List ℕ) → In (foremost s t ts) (t ∷ ts)
   first_in = best_in (before s) ranks_before
 
-  pub first_before : (t : ℕ) (ts : List ℕ) (u : ℕ) → In u (t ∷ ts) → (u ≡ first_of s t ts → ⊥) → before s (first_of s t ts) u ≡ true
-  first_before t ts u i n = before_either (first_of s t ts) u n (best_beaten (before s) ranks_before t ts u i)
+  pub first_before : (t : ℕ) (ts : List ℕ) (u : ℕ) → In u (t ∷ ts) → (u ≡ foremost s t ts → ⊥) → before s (foremost s t ts) u ≡ true
+  first_before t ts u i n = before_either (foremost s t ts) u n (best_beaten (before s) ranks_before t ts u i)
 
   -- a task that none comes before is the first
-  pub first_is : (t : ℕ) (ts : List ℕ) (u : ℕ) → In u (t ∷ ts) → ((v : ℕ) → In v (t ∷ ts) → before s v u ≡ false) → first_of s t ts ≡ u
+  pub first_is : (t : ℕ) (ts : List ℕ) (u : ℕ) → In u (t ∷ ts) → ((v : ℕ) → In v (t ∷ ts) → before s v u ≡ false) → foremost s t ts ≡ u
   first_is t ts u i none =
       ⊎_elim (λ e. e)
-      (λ n. absurd (both_ways (before s u (first_of s t ts)) (best_beaten (before s) ranks_before t ts u i) (before_either u (first_of s t ts) n (none (first_of s t ts) (first_in t ts)))))
-      (cases_eq (first_of s t ts) u)
+      (λ n. absurd (both_ways (before s u (foremost s t ts)) (best_beaten (before s) ranks_before t ts u i) (before_either u (foremost s t ts) n (none (foremost s t ts) (first_in t ts)))))
+      (cases_eq (foremost s t ts) u)
 
   -- the start that ends first
   pub soonest_in : (x : Start) (xs : List Start) → In (soonest s x xs) (x ∷ xs)

@@ -1,6 +1,6 @@
 -- No time of a canonical schedule is later than its tasks would end in a row.
 use Rattle.std.proofs.Common.{◌≡◌, ℕ, zero, suc, ◌*◌, ◌<◌, ◌≤◌, List, [], ◌∷◌, length, refl, subst, inl, inr, ⊎_elim, arith, length-append}
-use Rattle.model.specs.Canonical.{Start, Progress, running, free_cores, lasts, end_of, ready_tasks, first_of, soonest, pass, event, last_end, after, canonical, length_of}
+use Rattle.model.specs.Canonical.{Start, Progress, running, free_cores, lasts, end_of, ready_tasks, foremost, soonest, pass, event, last_end, after, canonical, length_of}
 use Rattle.model.specs.Graph.{Segment}
 use Rattle.model.specs.Limits.{most_worst}
 use Rattle.model.specs.Lists.{In}
@@ -27,7 +27,7 @@ module _ (s : Segment) where
     event_near [] ts short = pass_near (running q) refl
     event_near (c ∷ cs) [] short = pass_near (running q) refl
     event_near (c ∷ cs) (t ∷ ts) short =
-        let x : Start = record { task = first_of s t ts; at = q.moment; core = c } in
+        let x : Start = record { task = foremost s t ts; at = q.moment; core = c } in
         let more = length-append q.starts (x ∷ []) in
         let worst = short x (in_back x q.starts (x ∷ []) (inl refl)) in
         record {

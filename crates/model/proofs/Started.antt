@@ -3,7 +3,7 @@ use Rattle.std.proofs.Common.{◌≡◌, ℕ, ◌<◌, ◌≤◌, not, List, [],
 use Rattle.std.proofs.lemmas.List.Elements.{filter-append}
 use Rattle.std.proofs.lemmas.List.{map-append}
 use Rattle.std.proofs.lemmas.Bool.{ltb-true}
-use Rattle.model.specs.Canonical.{Start, Progress, begun, running, taken, free_cores, end_of, ready_tasks, first_of}
+use Rattle.model.specs.Canonical.{Start, Progress, begun, running, taken, free_cores, end_of, ready_tasks, foremost}
 use Rattle.model.specs.Graph.{Segment}
 use Rattle.model.specs.Lists.{has, In}
 use Rattle.model.specs.Places.{task}
@@ -17,7 +17,7 @@ use Rattle.model.proofs.Steady.{Placed, Steady, out_true, in_running, free_in, r
 module _ (cores : ℕ) (s : Segment) (q : Progress) (steady : Steady cores s q)
     (c : ℕ) (cs : List ℕ) (are_free : c ∷ cs ≡ free_cores cores q) (t : ℕ) (ts : List ℕ) (are_ready : t ∷ ts ≡ ready_tasks s q) where
   abbrev new : Start
-  new = record { task = first_of s t ts; at = q.moment; core = c }
+  new = record { task = foremost s t ts; at = q.moment; core = c }
 
   abbrev started : Progress
   started = record { moment = q.moment; starts = q.starts ++ (new ∷ []); ended = q.ended }

@@ -57,8 +57,8 @@ module _ (s : Segment) where
   before t u = nat_lt (task s u).worst (task s t).worst || ((task s t).worst == (task s u).worst && nat_lt t u)
 
   -- the first of a task and some more
-  abbrev pub first_of : ℕ → List ℕ → ℕ
-  first_of t ts = best_of before t ts
+  abbrev pub foremost : ℕ → List ℕ → ℕ
+  foremost t ts = best_of before t ts
 
   -- of a start and some more, one that ends the earliest
   abbrev pub soonest : Start → List Start → Start
@@ -82,7 +82,7 @@ module _ (s : Segment) where
   event p (c ∷ cs) (t ∷ ts) =
       record {
         moment = p.moment;
-        starts = p.starts ++ (record { task = first_of t ts; at = p.moment; core = c } ∷ []);
+        starts = p.starts ++ (record { task = foremost t ts; at = p.moment; core = c } ∷ []);
         ended = p.ended;
       }
 
