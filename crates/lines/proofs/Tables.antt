@@ -1,11 +1,10 @@
 -- The lines of a plan, read off its timelines.
-use Rattle.std.proofs.Common.{◌≡◌, ℕ, ◌+◌, ◌^◌, ◌<◌, ◌≤◌, [], ◌++◌, map, length, get_or, drop, vec_items, sym, ap, ◌∙◌, zero-add, arith}
-use mathlib.Core.List.{map-map}
+use Rattle.std.proofs.Common.{◌≡◌, ℕ, ◌+◌, ◌^◌, ◌<◌, ◌≤◌, ◌++◌, map, length, get_or, drop, vec_items, sym, ap, ◌∙◌, subst, zero-add, arith}
 use Rattle.std.proofs.lemmas.List.FromFn.{length-range_with_len, get_or-range_with_len}
 use Rattle.std.proofs.lemmas.List.{get_or-map, length-map}
 use Rattle.std.specs.List.{range_with_len, flat_map}
 use Rattle.graph.specs.Whole.{graph_of}
-use Rattle.model.proofs.LineLaws.{length-lines_from, lines_by_times, start_like, few_lines, start_in_time}
+use Rattle.model.proofs.LineLaws.{length-lines_from, few_lines, start_in_time}
 use Rattle.model.proofs.PlaceLaws.{well_formed_place_by_place}
 use Rattle.model.proofs.Runs.{joined-drop}
 use Rattle.model.specs.Canonical as canon
@@ -13,11 +12,9 @@ use Rattle.model.specs.CanonicalLines.{lines_from, canonical_segment_lines, cano
 use Rattle.model.specs.Graph.{Graph}
 use Rattle.model.specs.Lists.{In}
 use Rattle.model.specs.Places.{no_segment, segment, count, Formed}
-use Rattle.model.specs.Times.{order_of, schedule_of}
-use Rattle.plan.specs.Tables.{canonical_starts}
+use Rattle.model.specs.Times.{schedule_of}
 use Rattle.plan.specs.declared.place.Plan.{Plan}
-use Rattle.schedule.specs.Meaning.{start_of}
-use Rattle.schedule.specs.declared.parts.Start.{Start}
+use Rattle.schedule.specs.Meaning.{start_of, timeline_of, planned}
 use Rattle.schedule.specs.declared.parts.Timeline.{Timeline}
 
 -- the lines to come, from a segment on, are those of that segment and those after it
@@ -32,33 +29,21 @@ module _ (p : Plan) where
   plan_formed = well_formed_place_by_place (graph_of p.graph) p.graph.formed
 
   pub timelines_counted : length (vec_items p.timelines) ≡ count (graph_of p.graph)
-  timelines_counted = omega (arith, ap length p.ordered, length-map (vec_items p.timelines) (λ (t : Timeline). map (λ (x : Start). x.task) (vec_items t.starts)), length-map (graph_of p.graph).segments (canon.order p.graph.cores))
+  timelines_counted = omega (arith, ap length p.laid, length-map (vec_items p.timelines) timeline_of, length-map (graph_of p.graph).segments (planned p.graph.cores))
 
   module _ (i : ℕ) (t : Timeline) (low : i < length (vec_items p.timelines)) (is : t ≡ get_or (vec_items p.timelines) i t) where
     pub inside : i < count (graph_of p.graph)
     inside = omega (arith, low, timelines_counted)
 
-    -- the tasks and the times of the timeline are those of the canonical schedule
-    tasks_read : canon.begun (map start_of (vec_items t.starts)) ≡ order_of (graph_of p.graph) i
-    tasks_read =
+    -- the starts of the timeline are those of the canonical schedule
+    starts_read : map start_of (vec_items t.starts) ≡ schedule_of (graph_of p.graph) i
+    starts_read =
         let g = graph_of p.graph in
-        map-map (λ (x : canon.Start). x.task) start_of (vec_items t.starts)
-        ∙ ap (λ (u : Timeline). map (λ (x : Start). x.task) (vec_items u.starts)) is
-        ∙ sym (get_or-map (λ (u : Timeline). map (λ (x : Start). x.task) (vec_items u.starts)) (vec_items p.timelines) i t [] low)
-        ∙ ap (λ l. get_or l i []) p.ordered
-        ∙ get_or-map (canon.order g.cores) g.segments i no_segment [] inside
-
-    times_read : map (λ (x : canon.Start). x.at) (map start_of (vec_items t.starts)) ≡ map (λ (x : canon.Start). x.at) (schedule_of (graph_of p.graph) i)
-    times_read =
-        let g = graph_of p.graph in
-        map-map (λ (x : canon.Start). x.at) start_of (vec_items t.starts)
-        ∙ ap (λ (u : Timeline). map (λ (x : Start). x.at) (vec_items u.starts)) is
-        ∙ sym (get_or-map (λ (u : Timeline). map (λ (x : Start). x.at) (vec_items u.starts)) (vec_items p.timelines) i t [] low)
-        ∙ ap (λ l. get_or l i []) p.timed
-        ∙ get_or-map (canonical_starts g.cores) g.segments i no_segment [] inside
+        ap (λ u. (timeline_of u).starts) is
+        ∙ ap (λ x. x.starts) (sym (get_or-map timeline_of (vec_items p.timelines) i t (timeline_of t) low) ∙ ap (λ l. get_or l i (timeline_of t)) p.laid ∙ get_or-map (planned g.cores) g.segments i no_segment (timeline_of t) inside)
 
     pub lines_read : lines_from (segment (graph_of p.graph) i) i 0 (map start_of (vec_items t.starts)) ≡ canonical_segment_lines (graph_of p.graph) i
-    lines_read = lines_by_times (segment (graph_of p.graph) i) i 0 (map start_of (vec_items t.starts)) (schedule_of (graph_of p.graph) i) tasks_read times_read
+    lines_read = ap (lines_from (segment (graph_of p.graph) i) i 0) starts_read
 
     pub starts_counted : length (canonical_segment_lines (graph_of p.graph) i) ≡ length (vec_items t.starts)
     starts_counted = sym (ap length lines_read) ∙ length-lines_from (segment (graph_of p.graph) i) i 0 (map start_of (vec_items t.starts)) ∙ length-map (vec_items t.starts) start_of
@@ -67,9 +52,8 @@ module _ (p : Plan) where
         → (x.task < length (segment (graph_of p.graph) i).tasks) × (canon.end_of (segment (graph_of p.graph) i) x < 2 ^ 64)
     starts_known x sits =
         let g = graph_of p.graph in
-        let like = start_like (map start_of (vec_items t.starts)) (schedule_of g i) tasks_read times_read x sits in
-        let time = start_in_time g plan_formed p.in_time i inside like.0 like.1 in
-        (omega (arith, time.0, like.2), omega (arith, time.1, like.3, ap (canon.lasts (segment g i)) like.2, plan_formed.deadline_within))
+        let time = start_in_time g plan_formed p.in_time i inside x (subst (In x) starts_read sits) in
+        (time.0, omega (arith, time.1, plan_formed.deadline_within))
 
   -- and they can be counted
   pub lines_few : length (canonical_lines (graph_of p.graph)) ≤ 256

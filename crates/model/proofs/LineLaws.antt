@@ -3,7 +3,7 @@ use Rattle.std.proofs.Common.{◌≡◌, ℕ, suc, ◌+◌, ◌<◌, ◌≤◌, 
 use Rattle.std.proofs.lemmas.List.FromFn.{length-range_with_len}
 use Rattle.std.proofs.lemmas.List.{get_or-map, length-map, map-append}
 use Rattle.std.specs.List.{range_with_len, flat_map}
-use Rattle.model.specs.Canonical.{Start, no_start, begun, lasts, end_of, nth}
+use Rattle.model.specs.Canonical.{Start, no_start, lasts, end_of, nth}
 use Rattle.model.specs.CanonicalLines.{canonical_line, lines_from, canonical_segment_lines, canonical_lines, shifted}
 use Rattle.model.specs.Graph.{Graph, Segment, tasks_in}
 use Rattle.model.specs.Limits.{most_tasks}
@@ -40,39 +40,11 @@ module _ (s : Segment) (number : ℕ) where
   length-lines_from k [] = refl
   length-lines_from k (x ∷ xs) = ap suc (length-lines_from (k + 1) xs)
 
-  -- lines are by tasks and times: the cores do not matter
-  pub lines_by_times : (k : ℕ) (xs ys : List Start) → begun xs ≡ begun ys → map (λ (x : Start). x.at) xs ≡ map (λ (x : Start). x.at) ys
-      → lines_from s number k xs ≡ lines_from s number k ys
-  lines_by_times k [] [] e f = refl
-  lines_by_times k [] (y ∷ ys) e f = absurd (omega (arith, ap length e))
-  lines_by_times k (x ∷ xs) [] e f = absurd (omega (arith, ap length e))
-  lines_by_times k (x ∷ xs) (y ∷ ys) e f =
-      let t : x.task ≡ y.task = cc in
-      let a : x.at ≡ y.at = cc in
-      let es : begun xs ≡ begun ys = cc in
-      let fs : map (λ (z : Start). z.at) xs ≡ map (λ (z : Start). z.at) ys = cc in
-      rw (t, a, lines_by_times (k + 1) xs ys es fs)
-
   -- each is of one of the starts
   line_start : (k : ℕ) (xs : List Start) (l : Line) → In l (lines_from s number k xs) → (x : Start) × (j : ℕ) × In x xs × (l ≡ canonical_line s number j x)
   line_start k [] l i = absurd i
   line_start k (x ∷ xs) l (inl e) = (x, k, inl refl, e)
   line_start k (x ∷ xs) l (inr i) = let r = line_start (k + 1) xs l i in (r.0, r.1, inr r.2, r.3)
-
--- a start has its like in a list with the same tasks and times
-pub start_like : (xs ys : List Start) → begun xs ≡ begun ys → map (λ (x : Start). x.at) xs ≡ map (λ (x : Start). x.at) ys
-    → (x : Start) → In x xs → (y : Start) × In y ys × (x.task ≡ y.task) × (x.at ≡ y.at)
-start_like [] ys e f x i = absurd i
-start_like (z ∷ xs) [] e f x i = absurd (omega (arith, ap length e))
-start_like (z ∷ xs) (y ∷ ys) e f x (inl is) =
-    let t : z.task ≡ y.task = cc in
-    let a : z.at ≡ y.at = cc in
-    (y, inl refl, ap (λ (w : Start). w.task) is ∙ t, ap (λ (w : Start). w.at) is ∙ a)
-start_like (z ∷ xs) (y ∷ ys) e f x (inr i) =
-    let es : begun xs ≡ begun ys = cc in
-    let fs : map (λ (w : Start). w.at) xs ≡ map (λ (w : Start). w.at) ys = cc in
-    let r = start_like xs ys es fs x i in
-    (r.0, inr r.1, r.2, r.3)
 
 -- where each segment has a line for each task, so have all
 length-joined : {X : Type 0} (f : ℕ → List X) (ss : List Segment) (k : ℕ) → ((i j : ℕ) → i < length ss → k + i ≡ j → length (f j) ≡ length (get_or ss i no_segment).tasks)

@@ -1,8 +1,8 @@
 ghost use Rattle.std.specs.Prelude.{◌≡◌, ◌≤◌, map};
 ghost use Rattle.graph.specs.Whole.{graph_of};
-ghost use Rattle.model.specs.Canonical.{order, length_of};
 ghost use Rattle.model.specs.Times.{lengths, needed};
-ghost use Rattle.plan.specs.Tables.{orders, starts, cores, lengths_of, canonical_starts, canonical_cores};
+ghost use Rattle.schedule.specs.Meaning.{timeline_of, planned};
+ghost use Rattle.std.proofs.Props.{props};
 
 use graph::Graph;
 use schedule::Timeline;
@@ -14,10 +14,7 @@ pub struct Plan {
     pub graph: Graph,
     pub timelines: Vec<Timeline>,
     pub remaining: Vec<u64>,
-    ghost ordered: { orders timelines.items ≡ map (order graph.cores) (graph_of graph).segments },
-    ghost timed: { starts timelines.items ≡ map (canonical_starts graph.cores) (graph_of graph).segments },
-    ghost seated: { cores timelines.items ≡ map (canonical_cores graph.cores) (graph_of graph).segments },
-    ghost measured: { lengths_of timelines.items ≡ map (length_of graph.cores) (graph_of graph).segments },
+    ghost laid: { map timeline_of timelines.items ≡ map (planned graph.cores) (graph_of graph).segments } by { Prim.hlevel props },
     ghost remains: { remaining.items ≡ lengths graph.cores 0 (graph_of graph).segments },
     ghost in_time: { needed (graph_of graph) ≤ graph.deadline },
 }

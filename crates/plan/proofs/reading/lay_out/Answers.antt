@@ -11,7 +11,7 @@ use Rattle.model.specs.Graph.{Graph}
 use Rattle.model.specs.Times.{needed}
 use Rattle.schedule.specs.Meaning.{timeline_of, planned}
 use Rattle.plan.specs.Tables.{lengths_of}
-use Rattle.plan.proofs.Laying.{ordered, timed, seated, measured, scheduled, deadline_decides}
+use Rattle.plan.proofs.Laying.{measured, scheduled, deadline_decides}
 use Rattle.plan.proofs.reading.lay_out.Goals as goal
 use Rattle.plan.proofs.reading.lay_out.Goals.{In_ok-timelines, After-index-needed}
 
@@ -47,16 +47,9 @@ returns-then-needed-graph c =
 
 pub invariant_of-result : goal.invariant_of-result
 invariant_of-result c =
-    let cores = c.args.graph.cores in
-    let ts = vec_items c.in_ok-timelines.timelines in
-    let ss = (graph_of c.args.graph).segments in
     let at = goal.at.invariant_of-result c in
-    let rows = laid at.In_ok-timelines in
     record {
-      ordered = ordered cores ts ss rows;
-      timed = timed cores ts ss rows;
-      seated = seated cores ts ss rows;
-      measured = measured cores ts ss rows;
+      laid = laid at.In_ok-timelines;
       remains = c.in_ok-remaining.ensures;
       in_time = omega (arith, first at.After-index-needed, c.if-needed-graph.false);
     }
