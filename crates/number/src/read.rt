@@ -22,21 +22,15 @@ pub fn read_number<'a>(count: usize, bytes: &'a [u8]) -> Result<(u32, &'a [u8]),
     let mut weight: u64 = 1;
     while let [first, more @ ..] = rest {
         let group = *first;
-        sum = (sum + (group % 128) as u64 * weight).min(LIMIT);
+        sum = (sum + u64::from(group % 128) * weight).min(LIMIT);
         if group < 128 {
             if sum == LIMIT || (group == 0 && weight > 1) {
-                return Err(Fault {
-                    kind: Kind::NumberForm,
-                    place,
-                });
+                return Err(Kind::NumberForm.at(place));
             }
             return Ok((sum as u32, more));
         }
         weight = (weight * 128).min(HEAVIEST);
         rest = more;
     }
-    Err(Fault {
-        kind: Kind::BytesEnd,
-        place: count as u64,
-    })
+    Err(Kind::BytesEnd.at(count as u64))
 }

@@ -1,35 +1,43 @@
-ghost use Rattle.std.specs.Prelude.{◌≡◌};
+ghost use Rattle.std.specs.Prelude.{◌≡◌, ◌+◌, ◌<◌, ◌++◌, [], ◌∷◌};
 ghost use Rattle.model.specs.Numbers.{number_bytes};
 ghost use Rattle.model.specs.Writing.{Written};
 ghost use Rattle.number.specs.Held.{bytes_of};
 
 use crate::form::Groups;
-use fault::{Fault, Kind};
+use fault::{Fault, room_for};
 
 impl Groups {
     // The groups of `n`, lowest first.
     pub fn new(n: u32) -> Groups
         ensures { bytes_of result ≡ number_bytes n }
     {
-        let mut bytes = [0; 5];
-        let mut len = 0;
+        let mut groups = Groups {
+            bytes: [0; 5],
+            len: 0,
+        };
         let mut left = n;
         while left >= 128 {
-            bytes[len] = (128 + left % 128) as u8;
-            len += 1;
+            groups.push((128 + left % 128) as u8);
             left /= 128;
         }
-        bytes[len] = left as u8;
-        Groups {
-            bytes,
-            len: len + 1,
-        }
+        groups.push(left as u8);
+        groups
+    }
+
+    // One group more.
+    fn push(&mut self, group: u8)
+        requires { self.old.len < 5 }
+        ensures bytes { bytes_of self.new ≡ bytes_of self.old ++ group ∷ [] }
+        ensures len { self.new.len ≡ self.old.len + 1 }
+    {
+        self.bytes[self.len] = group;
+        self.len += 1;
     }
 
     pub fn as_slice(&self) -> &[u8]
         ensures { result.now ≡ bytes_of self.now }
     {
-        &self.bytes[0..self.len]
+        &self.bytes[..self.len]
     }
 }
 
@@ -40,12 +48,7 @@ pub fn write_number(n: u32, out: &mut [u8]) -> Result<usize, Fault>
     let groups = Groups::new(n);
     let bytes = groups.as_slice();
     let size = bytes.len();
-    if out.len() < size {
-        return Err(Fault {
-            kind: Kind::TooSmall,
-            place: size as u64,
-        });
-    }
-    out[0..size].copy_from_slice(bytes);
+    room_for(size, out.len())?;
+    out[..size].copy_from_slice(bytes);
     Ok(size)
 }
