@@ -1,9 +1,8 @@
 -- Looking for a segment among the exits.
-use Rattle.std.proofs.Common.{◌≡◌, ℕ, suc, ◌+◌, ◌-◌, ◌<◌, Bool, cond, ◌||◌, eqb, List, ◌∷◌, map, length, get_or, drop, Err, vec_items, sym, refl, ap, ◌∙◌, arith}
+use Rattle.std.proofs.Common.{◌≡◌, ℕ, suc, ◌+◌, ◌-◌, ◌<◌, Bool, cond, ◌||◌, eqb, List, [], ◌∷◌, map, Err, vec_items, sym, refl, ap, arith}
 use Rattle.std.proofs.lemmas.List.Elements.{contains_decides}
-use Rattle.std.proofs.lemmas.List.{at_drop_more}
 use Rattle.std.proofs.lemmas.Bool.Decides.{Decides-eqb, Decides-like, Decides-by_or, same_from_decides}
-use Rattle.std.specs.List.{IsAnyAnswer}
+use Rattle.std.specs.List.{IsAnyAnswer, list_any}
 use Rattle.fault.specs.declared.kind.Kind.TheVariants.{NoEntry}
 use Rattle.fault.specs.Card.{fault}
 use Rattle.model.specs.Graph.{Graph, entered}
@@ -18,12 +17,10 @@ contains_has xs x r found =
     same_from_decides r (has xs x) (contains_decides eqb Decides-eqb xs x r found)
     (Decides-by_or (λ y. eqb x y) (λ y. y ≡ x) (λ ys. has ys x) (λ y. Decides-like (eqb x y) sym sym (Decides-eqb x y)) refl (λ _ _. refl) xs)
 
--- one segment on
-pub entered_more : (xs : List Segment) (i n : ℕ) (s : Segment) (r : Bool) → i < length xs → s ≡ get_or xs i s → r ≡ has (vec_items s.exits) n → entered (map segment_of (drop i xs)) n ≡ (r || entered (map segment_of (drop (i + 1) xs)) n)
-entered_more xs i n s r h is found =
-    at_drop_more (λ l. entered (map segment_of l) n) xs i s h
-    ∙ (ap (λ (x : Segment). entered (map segment_of (x ∷ drop (i + 1) xs)) n) (sym is)
-    ∙ ap (λ b. b || entered (map segment_of (drop (i + 1) xs)) n) (sym found))
+-- looking among the exits of each segment
+pub entered_any : (xs : List Segment) (n : ℕ) → list_any (λ s. has (vec_items s.exits) n) xs ≡ entered (map segment_of xs) n
+entered_any [] n = refl
+entered_any (s ∷ xs) n = ap (λ b. has (vec_items s.exits) n || b) (entered_any xs n)
 
 -- one segment of the `many` on, from the k-th
 pub entries_more : (g : Graph) (k many : ℕ) → k < many → entries g k (many - k) ≡ cond (entered g.segments k) (entries g (k + 1) (many - (k + 1))) (Err (fault NoEntry k))

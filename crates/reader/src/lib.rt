@@ -2,8 +2,8 @@
 #![tactic(auto)]
 
 mod entries;
+mod input;
 mod limits;
-mod pieces;
 mod plan;
 mod segments;
 mod tasks;

@@ -1,15 +1,14 @@
 ghost use Rattle.std.specs.Prelude.{◌≡◌, IfOk};
+ghost use Rattle.fault.specs.Answers.{Answers, Refuses};
 ghost use Rattle.fault.specs.Card.{OnCard};
 ghost use Rattle.model.specs.Places.{Formed};
 ghost use Rattle.model.specs.Reading.{reading};
 ghost use Rattle.model.specs.Writing.{graph_bytes};
 ghost use Rattle.graph.specs.Whole.{graph_of};
-ghost use Rattle.reader.specs.Answers.{Answers, Refuses};
 
-use crate::entries::{entries, nothing_left};
+use crate::entries::entries;
+use crate::input::Input;
 use crate::limits::{MOST_CORES, MOST_DEADLINE, MOST_SEGMENTS};
-use crate::pieces::ranged;
-use crate::segments::segments;
 use fault::Error;
 use graph::Graph;
 use std::alloc::Global;
@@ -18,12 +17,12 @@ use std::alloc::Global;
 fn whole(heap: Global, bytes: &[u8]) -> Result<Graph, Error>
     ensures { Answers graph_of result (reading bytes.now) }
 {
-    let count = bytes.len();
-    let (cores, rest) = ranged(count, bytes, 1, MOST_CORES)?;
-    let (deadline, rest) = ranged(count, rest, 0, MOST_DEADLINE)?;
-    let (many, rest) = ranged(count, rest, 1, MOST_SEGMENTS)?;
-    let (segments, rest) = segments(heap, count, rest, many)?;
-    nothing_left(count, rest)?;
+    let mut input = Input::new(heap, bytes);
+    let cores = input.ranged(1, MOST_CORES)?;
+    let deadline = input.ranged(0, MOST_DEADLINE)?;
+    let many = input.ranged(1, MOST_SEGMENTS)?;
+    let segments = input.segments(many)?;
+    input.nothing_left()?;
     entries(segments.as_slice(), many)?;
     Ok(Graph {
         cores,

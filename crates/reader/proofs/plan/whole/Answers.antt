@@ -16,9 +16,9 @@ whole c = graph_with c.in_ok-cores.cores c.in_ok-deadline.deadline (vec_items c.
 -- once the parts are read, the entries decide
 read : (c : goal.After-entries) → reading c.args.bytes.now ≡ passing c.entries.result (whole c)
 read c =
-    read_whole c.args.bytes.now c.in_ok-cores.rest.now c.in_ok-deadline.rest.now c.in_ok-many.rest.now c.in_ok-segments.rest.now
+    read_whole c.args.bytes.now c.new-input.result c.ranged.new.self c.ranged-2.new.self c.ranged-3.new.self c.segments.new.self
     c.in_ok-cores.cores c.in_ok-deadline.deadline c.in_ok-many.many (map segment_of (vec_items c.in_ok-segments.segments))
-    c.in_ok-cores.ensures c.in_ok-deadline.ensures c.in_ok-many.ensures c.in_ok-segments.ensures.reads
+    c.new-input.ensures c.in_ok-cores.ensures c.in_ok-deadline.ensures c.in_ok-many.ensures c.in_ok-segments.ensures.reads.same_run c.in_ok-segments.ensures.reads.answer
     c.entries.result c.in_ok-nothing_left.ensures (c.entries.ensures (whole c) (ap (map segment_of) (sym c.as_slice.ensures.value)))
 
 pub returns-in_err-entries : goal.returns-in_err-entries

@@ -1,17 +1,22 @@
-use Rattle.std.proofs.Common.{◌-◌, [], ◌∷◌, ◌++◌, map, length, take, sym, refl, ap, ◌∙◌, arith, take_all}
-use Rattle.std.proofs.lemmas.List.{take_more, map_push}
+use Rattle.std.proofs.Common.{◌≡◌, ℕ, ◌-◌, List, [], ◌∷◌, ◌++◌, map, length, refl, ap, ◌∙◌, arith, rules}
+use Rattle.std.proofs.lemmas.Fn.{fold_over, fronts, slice_gives}
+use Rattle.std.proofs.lemmas.List.{map_push}
 use Rattle.model.proofs.Along.{total_push}
 use Rattle.model.specs.Graph.{predecessors_of}
 use Rattle.graph.specs.Meaning.{task_of}
+use Rattle.graph.specs.declared.parts.Task.{Task}
 use Rattle.reader.proofs.tasks.left_after.Goals as goal
 
-pub loop-task-preserved : goal.loop-task-preserved
-loop-task-preserved c =
-    let t = c.task-item.result in
-    let front = take c.loop-task.task-index c.args.tasks.now in
-    let more = take_more c.args.tasks.now c.loop-task.task-index t c.loop-task-test.true in
-    let total = ap (λ ts. predecessors_of (map task_of ts)) more ∙ (ap (λ u. predecessors_of (map task_of (front ++ (u ∷ [])))) (sym c.task-item.is) ∙ (ap predecessors_of (map_push task_of front t) ∙ total_push (λ x. length x.predecessors) predecessors_of refl (λ _ _. refl) (map task_of front) (task_of t))) in
-    omega (arith, total, c.loop-task.invariant, c.saturating_sub-allowed.ensures, c.len.ensures, t.predecessors.ok.0)
+-- one task more
+one_more : (left : ℕ) (ts : List Task) (t : Task) → left - predecessors_of (map task_of ts) - t.predecessors.len ≡ left - predecessors_of (map task_of (ts ++ (t ∷ [])))
+one_more left ts t =
+    let total = ap predecessors_of (map_push task_of ts t) ∙ total_push (λ x. length x.predecessors) predecessors_of refl (λ _ _. refl) (map task_of ts) (task_of t) in
+    omega (arith, total, t.predecessors.ok.0)
 
 pub returns : goal.returns
-returns c = c.loop-task.invariant ∙ ap (λ ts. c.args.left - predecessors_of (map task_of ts)) (take_all c.loop-task.task-index c.args.tasks.now c.loop-task-test.false)
+returns c =
+    let left_after : List Task → ℕ → Type 0 = λ ts a. a ≡ c.args.left - predecessors_of (map task_of ts) in
+    let all = fold_over fronts (λ y. y.now) _ left_after _
+    (λ ys a x b f' j k. let turn : b ≡ a - x.now.predecessors.len = search rules in (turn ∙ (ap (λ n. n - x.now.predecessors.len) j ∙ one_more c.args.left ys x.now), search rules))
+    c.iter.result c.iter.result.rest.now c.args.left c.fold.result (slice_gives c.iter.result) (omega arith) c.fold.ensures.ran in
+    all ∙ ap (λ ts. c.args.left - predecessors_of (map task_of ts)) c.iter.ensures.rest
