@@ -2,5 +2,6 @@
 #![tactic(auto)]
 
 mod plan;
+mod run;
 
 pub use plan::{graph_size, write_graph};
