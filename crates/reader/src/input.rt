@@ -71,7 +71,8 @@ impl<'a> Input<'a> {
         Ok(n)
     }
 
-    // A rising list of `many` numbers, from `least` on and below `top`.
+    // A rising list of `many` numbers, from `least` on and below `top`. A loop for every kind of list would need a type
+    // for each, to keep what a turn hands on to the next: here the lowest number, elsewhere what the plan may still have.
     pub(crate) fn rising(
         &mut self,
         many: u32,
