@@ -2,7 +2,6 @@ pub mod Empty
 pub mod Full
 pub mod Heap
 pub mod Held
-pub mod Ordered
 pub mod Orders
 pub mod Put
 pub mod Sorted

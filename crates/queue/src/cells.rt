@@ -1,27 +1,30 @@
-ghost use Rattle.std.specs.Prelude.{◌≡◌, MatchOption, MatchResult};
-ghost use Rattle.queue.specs.Empty.{Empty};
-ghost use Rattle.queue.specs.Full.{Full};
-ghost use Rattle.queue.specs.Held.{count, cells_of};
-ghost use Rattle.queue.specs.Ordered.{Ordered};
-ghost use Rattle.queue.specs.Put.{Put};
-ghost use Rattle.queue.specs.Taken.{Taken};
+ghost use Rattle.std.specs.Prelude.{◌≤◌, length, take};
+ghost use Rattle.queue.specs.Heap.{Heaped};
 
 use crate::heap::{rise, sink};
 use crate::order::Entry;
 use fault::{Fault, Kind};
 
-// Entries in cells that the caller handed in: a heap in the first `len` of them, or in all where they are fewer.
+// Entries in cells that the caller handed in: a heap in the first `len` of them.
 #[derive(Drop)]
-pub struct Queue<'c, E> {
+pub struct Queue<'c, E: Entry> {
     cells: &'c mut [E],
     len: usize,
+    pub ghost fits: { len ≤ length cells.now },
+    pub ghost ordered: { Heaped E.before (take len cells.now) },
 }
 
 impl<'c, E: Entry> Queue<'c, E> {
+    ghost use Rattle.std.specs.Prelude.{◌≡◌, MatchOption, MatchResult};
+    ghost use Rattle.queue.specs.Empty.{Empty};
+    ghost use Rattle.queue.specs.Full.{Full};
+    ghost use Rattle.queue.specs.Held.{count, cells_of};
+    ghost use Rattle.queue.specs.Put.{Put};
+    ghost use Rattle.queue.specs.Taken.{Taken};
+
     // An empty queue over the cells.
     pub fn new(cells: &'c mut [E]) -> Queue<'c, E>
         ensures empty { Empty result }
-        ensures ordered { Ordered E.before result }
         ensures cells { cells_of result ≡ cells.old }
         ensures same { result.cells.ghost_name ≡ cells.entry.ghost_name }
     {
@@ -32,25 +35,22 @@ impl<'c, E: Entry> Queue<'c, E> {
     pub fn count(&self) -> usize
         ensures { result ≡ count self.now }
     {
-        self.len.min(self.cells.len())
+        self.len
     }
 
     // Takes an entry in, or refuses where no cell is free.
     pub fn put(&mut self, e: E) -> Result<(), Fault>
         ensures same { self.new.cells.ghost_name ≡ self.old.cells.ghost_name }
         ensures cases { MatchResult result
-            (λ _. Put E.before e self.old self.new)
+            (λ _. Put e self.old self.new)
             (λ f. Full self.old f × (self.new ≡ self.old)) }
     {
-        let count = self.count();
+        let count = self.len;
         if count == self.cells.len() {
-            return Err(Fault {
-                kind: Kind::TooSmall,
-                place: (count as u64).saturating_add(1),
-            });
+            return Err(Kind::TooSmall.at((count as u64).saturating_add(1)));
         }
         self.cells[count] = e;
-        rise(&mut self.cells[0..count + 1]);
+        rise(&mut self.cells[..count + 1]);
         self.len = count + 1;
         Ok(())
     }
@@ -60,16 +60,17 @@ impl<'c, E: Entry> Queue<'c, E> {
         ensures same { self.new.cells.ghost_name ≡ self.old.cells.ghost_name }
         ensures cases { MatchOption result
             (Empty self.old × (self.new ≡ self.old))
-            (λ e. Taken E.before e self.old self.new) }
+            (λ e. Taken e self.old self.new) }
     {
-        let count = self.count();
-        if count == 0 {
+        if self.len == 0 {
             return None;
         }
-        let last = count - 1;
+        let last = self.len - 1;
         let first = self.cells[0];
+        // Until the last entry has sunk, none counts as held, since the cells are no heap.
+        self.len = 0;
         self.cells[0] = self.cells[last];
-        sink(&mut self.cells[0..last]);
+        sink(&mut self.cells[..last]);
         self.len = last;
         Some(first)
     }

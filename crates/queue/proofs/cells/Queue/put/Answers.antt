@@ -1,9 +1,6 @@
-use Rattle.std.proofs.Common.{refl, arith}
+use Rattle.std.proofs.Common.{refl}
 use Rattle.queue.proofs.Putting.{puts}
 use Rattle.queue.proofs.cells.Queue.put.Goals as goal
 
-pub returns : goal.returns
-returns g c = record {
-  same = refl;
-  cases = puts g.E.Entry.before c.args.e c.args.self.now _ c.count-count.result _ c.rise.new.entries c.count-count.ensures (omega arith) (omega arith) refl refl c.rise.ensures.shuffled c.rise.ensures.heaped;
-}
+pub returns-clause-cases : goal.returns-clause-cases
+returns-clause-cases g c = puts c.args.e c.args.self.now _ c.rise.new.entries c.if-count-self.false refl refl c.rise.ensures.shuffled
