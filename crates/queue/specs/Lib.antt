@@ -4,5 +4,6 @@ pub mod Heap
 pub mod Held
 pub mod Orders
 pub mod Put
+pub mod Queues
 pub mod Sorted
 pub mod Taken

@@ -2,9 +2,10 @@ ghost use Rattle.queue.specs.Orders.{ready_before, running_before};
 ghost use Rattle.std.proofs.Common.{rules};
 
 use crate::order::Entry;
+use std::cmp::Reverse;
 
 // A task that waits for a core, with its worst time.
-#[derive(Clone, Copy, PartialEq, Eq, Debug)]
+#[derive(Clone, Copy, PartialEq, Eq, Default, Debug)]
 pub struct Ready {
     pub worst: u32,
     pub task: u32,
@@ -21,15 +22,12 @@ impl Entry for Ready {
     ghost transitive = { Prim.search rules };
 
     fn before(&self, other: &Ready) -> bool {
-        if self.worst != other.worst {
-            return self.worst > other.worst;
-        }
-        self.task < other.task
+        (Reverse(self.worst), self.task) < (Reverse(other.worst), other.task)
     }
 }
 
-// A task on a core, with its end.
-#[derive(Clone, Copy, PartialEq, Eq, Debug)]
+// A task on a core, with its end. Its order is that of the fields.
+#[derive(Clone, Copy, PartialEq, Eq, PartialOrd, Ord, Default, Debug)]
 pub struct Running {
     pub end: u64,
     pub core: u32,
@@ -47,12 +45,6 @@ impl Entry for Running {
     ghost transitive = { Prim.search rules };
 
     fn before(&self, other: &Running) -> bool {
-        if self.end != other.end {
-            return self.end < other.end;
-        }
-        if self.core != other.core {
-            return self.core < other.core;
-        }
-        self.task < other.task
+        self < other
     }
 }
