@@ -6,6 +6,7 @@ use crate::order::Entry;
 use fault::{Fault, Kind};
 
 // Entries in cells that the caller handed in: a heap in the first `len` of them.
+// Cells with a length beside them, and no map or BinaryHeap, since a queue takes no memory: a form that the rules name.
 #[derive(Drop)]
 pub struct Queue<'c, E: Entry> {
     cells: &'c mut [E],

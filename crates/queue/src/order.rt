@@ -1,6 +1,7 @@
 ghost use Rattle.std.specs.Prelude.{◌≡◌, Bool, true, false};
 
 // What a queue can hold: values of which one comes before the other, unless they are equal in all fields.
+// `Ord` would say of two values that tie only that they are `==`, and not that they are the same entry.
 pub trait Entry: Copy {
     ghost before: { Self → Self → Bool };
 

@@ -16,15 +16,12 @@ mod tests {
     }
 
     fn full(place: u64) -> Result<(), Fault> {
-        Err(Fault {
-            kind: Kind::TooSmall,
-            place,
-        })
+        Err(Kind::TooSmall.at(place))
     }
 
     #[test]
     fn larger_worst_then_lower_task(rt: HostRuntime) -> Result<(), Fail> {
-        let mut cells = [ready(0, 0); 3];
+        let mut cells = [Ready::default(); 3];
         let mut queue = Queue::new(&mut cells);
         queue.put(ready(5, 2))?;
         queue.put(ready(5, 1))?;
@@ -38,7 +35,7 @@ mod tests {
 
     #[test]
     fn earlier_end_then_lower_core(rt: HostRuntime) -> Result<(), Fail> {
-        let mut cells = [running(0, 0, 0); 3];
+        let mut cells = [Running::default(); 3];
         let mut queue = Queue::new(&mut cells);
         queue.put(running(7, 1, 4))?;
         queue.put(running(7, 0, 5))?;
@@ -51,7 +48,7 @@ mod tests {
 
     #[test]
     fn a_freed_cell_is_used_again(rt: HostRuntime) -> Result<(), Fail> {
-        let mut cells = [ready(0, 0); 1];
+        let mut cells = [Ready::default(); 1];
         let mut queue = Queue::new(&mut cells);
         queue.put(ready(1, 1))?;
         assert_eq!(rt; queue.put(ready(2, 2)), full(2));
@@ -73,7 +70,7 @@ mod tests {
 
     #[test]
     fn equal_entries_and_the_lower_task(rt: HostRuntime) -> Result<(), Fail> {
-        let mut cells = [running(0, 0, 0); 4];
+        let mut cells = [Running::default(); 4];
         let mut queue = Queue::new(&mut cells);
         queue.put(running(5, 2, 9))?;
         queue.put(running(5, 2, 8))?;
@@ -96,7 +93,7 @@ mod tests {
             ready(6, 0),
             ready(7, 0),
         ];
-        let mut cells = [ready(0, 0); 9];
+        let mut cells = [Ready::default(); 9];
         sort(&mut items, &mut cells)?;
         assert_eq!(rt;
             items,
@@ -120,7 +117,7 @@ mod tests {
     #[test]
     fn sorts(rt: HostRuntime) -> Result<(), Fail> {
         let mut items = [ready(2, 1), ready(4, 2), ready(2, 0)];
-        let mut cells = [ready(0, 0); 3];
+        let mut cells = [Ready::default(); 3];
         assert_eq!(rt; sort(&mut items, &mut cells[0..2]), full(3));
         assert_eq!(rt; items, [ready(2, 1), ready(4, 2), ready(2, 0)]);
         sort(&mut items, &mut cells)?;
