@@ -1,19 +1,25 @@
 -- The last end of some starts, and the largest of some segments.
-use Rattle.std.proofs.Common.{◌≡◌, ℕ, zero, suc, ◌<◌, ◌≤◌, max, List, [], ◌∷◌, ◌++◌, length, get_or, refl, arith}
-use Rattle.model.specs.Canonical.{Start, end_of, last_end}
+use Rattle.std.proofs.Common.{◌≡◌, ℕ, max, List, [], ◌∷◌, map, vec_len, arith}
+use Rattle.std.specs.List.{fold}
+use Rattle.graph.specs.Meaning.{segment_of}
+use Rattle.graph.specs.declared.parts.Segment as code
+use Rattle.model.specs.Accepting.{tasks_of_largest}
+use Rattle.model.specs.Canonical.{end_of, last_end}
 use Rattle.model.specs.Graph.{Segment}
-use Rattle.model.specs.Places.{no_segment}
-use Rattle.schedule.specs.Meaning.{most_tasks}
+use Rattle.schedule.specs.Meaning.{start_of}
+use Rattle.schedule.specs.declared.parts.Start.{Start}
+use Rattle.schedule.proofs.Reading.{length-tasks}
 
-pub last_end_push : (s : Segment) (xs : List Start) (x : Start) → last_end s (xs ++ (x ∷ [])) ≡ max (end_of s x) (last_end s xs)
-last_end_push s [] x = refl
-last_end_push s (y ∷ ys) x = omega (arith, last_end_push s ys x)
+last_end_fold : (s : Segment) (a : ℕ) (xs : List Start) → fold (λ n x. max n (end_of s (start_of x))) a xs ≡ max a (last_end s (map start_of xs))
+last_end_fold s a [] = omega arith
+last_end_fold s a (x ∷ xs) = omega (arith, last_end_fold s (max a (end_of s (start_of x))) xs)
 
-pub most_tasks_push : (ss : List Segment) (s : Segment) → most_tasks (ss ++ (s ∷ [])) ≡ max (length s.tasks) (most_tasks ss)
-most_tasks_push [] s = refl
-most_tasks_push (t ∷ ts) s = omega (arith, most_tasks_push ts s)
+largest_fold : (a : ℕ) (ss : List code.Segment) → fold (λ n s. max n (vec_len s.tasks)) a ss ≡ max a (tasks_of_largest (map segment_of ss))
+largest_fold a [] = omega arith
+largest_fold a (s ∷ ss) = omega (arith, largest_fold (max a (vec_len s.tasks)) ss, length-tasks s)
 
-pub most_tasks_each : (ss : List Segment) (i : ℕ) → i < length ss → length (get_or ss i no_segment).tasks ≤ most_tasks ss
-most_tasks_each [] i h = absurd (omega arith)
-most_tasks_each (s ∷ ss) zero h = omega arith
-most_tasks_each (s ∷ ss) (suc i) h = omega (arith, most_tasks_each ss i (omega arith))
+pub last_end_is : (s : Segment) (xs : List Start) → fold (λ n x. max n (end_of s (start_of x))) 0 xs ≡ last_end s (map start_of xs)
+last_end_is s xs = omega (arith, last_end_fold s 0 xs)
+
+pub largest_is : (ss : List code.Segment) → fold (λ n s. max n (vec_len s.tasks)) 0 ss ≡ tasks_of_largest (map segment_of ss)
+largest_is ss = omega (arith, largest_fold 0 ss)

@@ -1,5 +1,5 @@
 pub mod Due
+pub mod Free
 pub mod Largest
-pub mod Launch
 pub mod Reading
 pub mod Unless

@@ -1,5 +1,5 @@
 -- What starts and timelines mean.
-use Rattle.std.specs.Prelude.{ℕ, max, List, [], ◌∷◌, map, length, vec_items}
+use Rattle.std.specs.Prelude.{ℕ, List, map, vec_items}
 use Rattle.model.specs.Canonical as canon
 use Rattle.model.specs.Graph.{Segment}
 use Rattle.schedule.specs.declared.parts.Start.{Start}
@@ -19,8 +19,3 @@ timeline_of t = record { starts = map start_of (vec_items t.starts); length = t.
 -- the canonical schedule of a segment
 abbrev pub planned : ℕ → Segment → Plan
 planned cores s = record { starts = canon.canonical cores s; length = canon.length_of cores s }
-
--- how many tasks the largest of some segments has
-abbrev pub most_tasks : List Segment → ℕ
-most_tasks [] = 0
-most_tasks (s ∷ ss) = max (length s.tasks) (most_tasks ss)

@@ -3,7 +3,7 @@ ghost use Rattle.model.specs.Lists.{In};
 ghost use Rattle.graph.specs.Meaning.{segment_of};
 ghost use Rattle.schedule_laws.specs.Bounds.{Bounded};
 ghost use Rattle.schedule_laws.specs.Following.{Followed, Following};
-ghost use Rattle.schedule.specs.Answer.{UnlessMemoryLacks};
+ghost use Rattle.fault.specs.Answers.{UnlessMemoryLacks};
 ghost use Rattle.schedule.specs.Vecs.{lists};
 
 use fault::Error;

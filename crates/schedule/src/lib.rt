@@ -6,6 +6,7 @@ mod begins;
 mod ends;
 mod events;
 mod followers;
+mod layouts;
 mod lengths;
 mod parts;
 mod passes;

@@ -12,13 +12,3 @@ pub struct Timeline {
     pub starts: Vec<Start>,
     pub length: u64,
 }
-
-// How far a schedule has come: the moment, the starts so far, how many predecessors each task waits for, and which
-// cores are taken.
-#[derive(Drop)]
-pub(crate) struct Progress {
-    pub(crate) moment: u64,
-    pub(crate) starts: Vec<Start>,
-    pub(crate) waiting: Vec<u32>,
-    pub(crate) taken: [bool; 8],
-}

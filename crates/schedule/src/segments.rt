@@ -1,13 +1,15 @@
 ghost use Rattle.std.specs.Prelude.{◌≡◌, map, length};
+ghost use Rattle.fault.specs.Answers.{Answers, Refuses};
+ghost use Rattle.graph.specs.Meaning.{segment_of};
 ghost use Rattle.graph.specs.Whole.{graph_of};
-ghost use Rattle.schedule.specs.Answer.{schedules, Answers, WhereRefused};
+ghost use Rattle.model.specs.Accepting.{tasks_of_largest};
+ghost use Rattle.schedule.specs.Answer.{schedules};
 ghost use Rattle.schedule.specs.Meaning.{timeline_of};
 
-use crate::lengths::most_tasks;
 use crate::parts::Timeline;
 use crate::timelines::timeline;
-use fault::{Error, Fault, Kind};
-use graph::Graph;
+use fault::{Error, room_for};
+use graph::{Graph, Segment};
 use queue::{Ready, Running};
 use std::alloc::Global;
 
@@ -19,26 +21,27 @@ pub fn schedule(
     running: &mut [Running],
 ) -> Result<Vec<Timeline>, Error>
     ensures answer { Answers (λ ts. map timeline_of ts.items) result (schedules (graph_of graph.now) (length ready.old) (length running.old)) }
-    ensures kept { WhereRefused result ((ready.new ≡ ready.old) × (running.new ≡ running.old)) }
+    ensures kept { Refuses result (λ _. (ready.new ≡ ready.old) × (running.new ≡ running.old)) }
 {
-    let tasks = most_tasks(graph.segments.as_slice());
-    if ready.len() < tasks {
-        return Err(Error::Refused(Fault {
-            kind: Kind::TooSmall,
-            place: tasks as u64,
-        }));
-    }
+    let tasks = tasks_of_largest(graph.segments.as_slice());
+    room_for(tasks, ready.len())?;
     let cores = graph.cores;
-    if running.len() < cores as usize {
-        return Err(Error::Refused(Fault {
-            kind: Kind::TooSmall,
-            place: cores as u64,
-        }));
-    }
+    room_for(cores as usize, running.len())?;
     let mut timelines = Vec::new(heap);
     for segment in graph.segments.as_slice() {
         let timeline = timeline(heap, segment, cores, ready, running)?;
         timelines.push(timeline)?;
     }
     Ok(timelines)
+}
+
+// How many tasks the largest segment has.
+fn tasks_of_largest(segments: &[Segment]) -> usize
+    ensures { result ≡ tasks_of_largest (map segment_of segments.now) }
+{
+    segments
+        .iter()
+        .map(|segment| segment.tasks.len())
+        .max()
+        .unwrap_or(0)
 }

@@ -1,46 +1,38 @@
-ghost use Rattle.std.specs.Prelude.{◌≡◌, ℕ, ◌+◌, ◌^◌, ◌<◌, ◌≤◌, true, false, length, MatchOption, slice_index_or};
-ghost use Rattle.queue.specs.Held.{count, cells_of};
-ghost use Rattle.schedule.specs.Answer.{UnlessMemoryLacks};
-ghost use Rattle.schedule.specs.Started.{Started};
+ghost use Rattle.std.specs.Prelude.{◌≡◌, ◌<◌, false, not, ◌∷◌, take, position, slice_index_or};
+ghost use Rattle.model.specs.Canonical.{Progress};
+ghost use Rattle.queue.specs.Held.{held};
+ghost use Rattle.fault.specs.Answers.{UnlessMemoryLacks};
+ghost use Rattle.schedule.specs.Stands.{StandsWith, Begun};
 
-use crate::parts::{Progress, Start};
+use crate::layouts::Layout;
+use crate::parts::Start;
 use crate::queues::put;
 use fault::Error;
-use queue::{Queue, Ready, Running};
+use queue::{Ready, Running};
 
-// The lowest of the cores that is free.
-pub(crate) fn free_core(taken: &[bool; 8], cores: u32) -> Option<u32>
-    requires { cores ≤ 8 }
-    ensures { MatchOption result
-        ((c : ℕ) → c < cores → slice_index_or taken.now c false ≡ true)
-        (λ c. (c < cores) × (slice_index_or taken.now c false ≡ false) × ((k : ℕ) → k < c → slice_index_or taken.now k false ≡ true)) }
-{
-    for core in 0..cores {
-        if !taken[core as usize] {
-            return Some(core);
-        }
+impl Layout<'_, '_> {
+    // The lowest of the cores that is free.
+    pub(crate) fn free_core(&self) -> Option<usize>
+        ensures { result ≡ position not (take self.now.cores self.now.taken) }
+    {
+        self.taken
+            .iter()
+            .take(self.cores as usize)
+            .position(|taken| !taken)
     }
-    None
-}
 
-// Starts a ready task on a free core.
-pub(crate) fn start(
-    progress: &mut Progress,
-    running: &mut Queue<'_, Running>,
-    first: Ready,
-    core: u32,
-) -> Result<(), Error>
-    requires known { core < 8 }
-    requires room { count running.old < length (cells_of running.old) }
-    requires fits { progress.old.moment + first.worst < 2 ^ 64 }
-    ensures same { running.new.cells.ghost_name ≡ running.old.cells.ghost_name }
-    ensures started { UnlessMemoryLacks result (λ _. Started first core progress.old progress.new running.old running.new) }
-{
-    let at = progress.moment;
-    let task = first.task;
-    progress.starts.push(Start { task, at, core })?;
-    progress.taken[core as usize] = true;
-    let end = at + first.worst as u64;
-    put(running, Running { end, core, task });
-    Ok(())
+    // Starts a ready task on a free core.
+    pub(crate) fn start(&mut self, first: Ready, core: u32) -> Result<(), Error>
+        requires free { (core < self.old.cores) × (slice_index_or self.old.taken core false ≡ false) }
+        requires stands { (p : Progress) × StandsWith p (first ∷ held self.old.ready) (held self.old.running) self.old }
+        ensures { UnlessMemoryLacks result (λ _. Begun first core self.old self.new) }
+    {
+        let at = self.moment;
+        let task = first.task;
+        self.starts.push(Start { task, at, core })?;
+        self.taken[core as usize] = true;
+        let end = at + first.worst as u64;
+        put(&mut self.running, Running { end, core, task });
+        Ok(())
+    }
 }

@@ -9,7 +9,6 @@ use Rattle.schedule.proofs.begins.begin.Given as goal
 -- the tasks so far are counted
 abbrev pub invariant-loop-number : goal.invariant-loop-number
 invariant-loop-number l =
-    (l.ready.cells.ghost_name ≡ l.initial.ready.cells.ghost_name)
-    × (length (cells_of l.ready) ≡ length (cells_of l.initial.ready))
+    (length (cells_of l.ready) ≡ length (cells_of l.initial.ready))
     × (Ordered ready_before l.initial.ready → Ordered ready_before l.ready)
     × Beginning (segment_of l.segment) l.number (held l.ready) (vec_items l.waiting)

@@ -9,8 +9,7 @@ use Rattle.schedule.proofs.ends.release.Given as goal
 -- the followers so far are released
 abbrev pub invariant-loop-follower : goal.invariant-loop-follower
 invariant-loop-follower l =
-    (l.ready.cells.ghost_name ≡ l.initial.ready.cells.ghost_name)
-    × (length (cells_of l.ready) ≡ length (cells_of l.initial.ready))
+    (length (cells_of l.ready) ≡ length (cells_of l.initial.ready))
     × (Ordered ready_before l.initial.ready → Ordered ready_before l.ready)
     × (count l.ready ≤ count l.initial.ready + l.follower-index)
     × Released (segment_of l.segment) (take l.follower-index l.followers) (vec_items l.initial.waiting) (vec_items l.waiting) (held l.initial.ready) (held l.ready)

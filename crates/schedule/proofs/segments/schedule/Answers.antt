@@ -1,16 +1,23 @@
-use Rattle.std.proofs.Common.{◌≡◌, ◌+◌, ◌<◌, List, [], ◌∷◌, ◌++◌, map, length, get_or, take, Ok, vec_items, Result, sym, ap, ◌∙◌, subst, arith}
+use Rattle.std.proofs.Common.{◌≡◌, ℕ, ◌+◌, ◌<◌, ◌≤◌, List, [], ◌∷◌, ◌++◌, map, length, get_or, take, Ok, vec_items, Result, sym, ap, ◌∙◌, subst, arith}
 use Rattle.std.proofs.lemmas.List.{length-map, get_or-map, map_push, take_more, take_all}
+use Rattle.std.proofs.lemmas.Bool.Decides.{nat_tests}
 use Rattle.std.proofs.lemmas.Bool.{cond-false, le-ltb}
+use Rattle.fault.specs.Room.{room}
 use Rattle.fault.specs.declared.kind.Fault.{Fault}
 use Rattle.graph.specs.Meaning.{segment_of}
 use Rattle.graph.specs.Whole.{graph_of}
+use Rattle.model.specs.Accepting.{tasks_of_largest}
+use Rattle.model.proofs.PlanLaws.{largest_each}
 use Rattle.model.proofs.PlaceLaws.{well_formed_place_by_place}
 use Rattle.model.specs.Places.{no_segment, segment}
 use Rattle.schedule_laws.proofs.Bounding.{bounded}
 use Rattle.schedule_laws.specs.Bounds.{Bounded}
-use Rattle.schedule.specs.Meaning.{Plan, timeline_of, planned, most_tasks}
-use Rattle.schedule.proofs.Largest.{most_tasks_each}
+use Rattle.schedule.specs.Meaning.{Plan, timeline_of, planned}
 use Rattle.schedule.proofs.segments.schedule.Goals as goal
+
+-- what was not refused has room
+enough : (needed there : ℕ) → Ok tt ≡ room needed there → needed ≤ there
+enough needed there e = grind (arith, nat_tests)
 
 pub timeline-requires : goal.timeline-requires
 timeline-requires c =
@@ -22,10 +29,10 @@ timeline-requires c =
     let low : i < length items = omega (arith, c.loop-segment-test.true, ap length value) in
     let inside : i < length (map segment_of items) = omega (arith, low, length-map items segment_of) in
     let read : segment (graph_of g) i ≡ segment_of x = get_or-map segment_of items i x no_segment low ∙ ap segment_of (sym (c.segment-item.is ∙ ap (λ l. get_or l i x) value)) in
-    let most = ap (λ l. most_tasks (map segment_of l)) c.as_slice.ensures.value in record {
+    let most = ap (λ l. tasks_of_largest (map segment_of l)) c.as_slice.ensures.value in record {
       bounded = subst (λ s. Bounded g.cores s) read (bounded (graph_of g) (well_formed_place_by_place (graph_of g) g.formed) i inside);
-      ready_room = omega (arith, most_tasks_each (map segment_of items) i inside, ap (λ s. length s.tasks) read, most, c.most_tasks-tasks.ensures, c.if-ready-tasks.false, c.loop-segment.auto.ready);
-      running_room = omega (arith, c.if-running-cores.false, c.loop-segment.auto.running);
+      ready_room = omega (arith, largest_each (map segment_of items) i inside, ap (λ s. length s.tasks) read, most, c.tasks_of_largest-tasks.ensures, (enough _ _ c.in_ok-room_for.ensures), c.loop-segment.auto.ready);
+      running_room = omega (arith, (enough _ _ c.in_ok-room_for-2.ensures), c.loop-segment.auto.running);
     }
 
 pub loop-segment-preserved : goal.loop-segment-preserved
@@ -49,12 +56,12 @@ pub returns : goal.returns
 returns c =
     let g = c.args.graph.now in
     let items = vec_items g.segments in
-    let most = ap (λ l. most_tasks (map segment_of l)) c.as_slice.ensures.value in
+    let most = ap (λ l. tasks_of_largest (map segment_of l)) c.as_slice.ensures.value in
     let all = take_all c.loop-segment.segment-index items (omega (arith, c.loop-segment-test.false, ap length c.as_slice-segment-items.ensures.value)) in
     record {
       answer =
-          cond-false _ _ _ (le-ltb (length c.args.ready.now) (most_tasks (map segment_of items)) (omega (arith, most, c.most_tasks-tasks.ensures, c.if-ready-tasks.false)))
-          ∙ cond-false _ _ _ (le-ltb (length c.args.running.now) g.cores c.if-running-cores.false)
+          cond-false _ _ _ (le-ltb (length c.args.ready.now) (tasks_of_largest (map segment_of items)) (omega (arith, most, c.tasks_of_largest-tasks.ensures, (enough _ _ c.in_ok-room_for.ensures))))
+          ∙ cond-false _ _ _ (le-ltb (length c.args.running.now) g.cores (enough _ _ c.in_ok-room_for-2.ensures))
           ∙ ap {B = Result (List Plan) Fault} (λ l. Ok l) (sym (c.loop-segment.invariant ∙ ap (λ l. map (planned g.cores) (map segment_of l)) all));
       kept = tt;
     }
