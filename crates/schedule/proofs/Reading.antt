@@ -7,6 +7,7 @@ use Rattle.graph.specs.declared.parts.Segment.{Segment}
 use Rattle.graph.specs.declared.parts.Task.{Task}
 use Rattle.queue.specs.Held.{cells_of, count, held}
 use Rattle.queue.specs.declared.cells.Queue.{Queue}
+use Rattle.queue.specs.declared.order.Entry as entry
 use Rattle.schedule.specs.Vecs.{lists}
 
 pub length-lists : {X Y Z : Type 0} (v : Vec (Vec X Y) Z) → length (lists v) ≡ vec_len v
@@ -21,5 +22,5 @@ length-tasks s = length-map (vec_items s.tasks) task_of ∙ sym s.tasks.ok.0
 pub read_task : (s : Segment) (i : ℕ) (x : Task) → i < vec_len s.tasks → x ≡ get_or (vec_items s.tasks) i x → task (segment_of s) i ≡ task_of x
 read_task s i x inside is = get_or-map task_of (vec_items s.tasks) i x no_task (omega (arith, s.tasks.ok.0)) ∙ ap task_of (sym is)
 
-pub held_count : {E : Type 0} (q : Queue E) → length (held q) ≡ count q
-held_count q = omega (arith, length-take (count q) (cells_of q))
+pub held_count : {E : Type 0} {o : entry.Ghosts E} (q : Queue E o) → length (held q) ≡ count q
+held_count q = omega (arith, length-take (count q) (cells_of q), q.fits)

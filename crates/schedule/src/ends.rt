@@ -2,8 +2,6 @@ ghost use Rattle.std.specs.Prelude.{◌≡◌, ℕ, ◌+◌, ◌≤◌, List, �
 ghost use Rattle.graph.specs.Meaning.{segment_of};
 ghost use Rattle.model.specs.Canonical.{Progress};
 ghost use Rattle.queue.specs.Held.{held, count, cells_of};
-ghost use Rattle.queue.specs.Ordered.{Ordered};
-ghost use Rattle.queue.specs.Orders.{ready_before};
 ghost use Rattle.schedule_laws.specs.Counting.{times};
 ghost use Rattle.schedule_laws.specs.Released.{Released};
 ghost use Rattle.schedule.specs.Stands.{SameWork, Passes};
@@ -24,7 +22,6 @@ fn release(
     requires waits { (t : ℕ) → times (λ u. u) t followers.now ≤ slice_index waiting.old.items t }
     requires room { count ready.old + length followers.now ≤ length (cells_of ready.old) }
     ensures room { length (cells_of ready.new) ≡ length (cells_of ready.old) }
-    ensures ordered { Ordered ready_before ready.old → Ordered ready_before ready.new }
     ensures released { Released (segment_of segment.now) followers.now waiting.old.items waiting.new.items (held ready.old) (held ready.new) }
 {
     for follower in followers {

@@ -2,8 +2,6 @@ ghost use Rattle.std.specs.Prelude.{◌≡◌, ◌≤◌, length, vec_len};
 ghost use Rattle.std.proofs.Props.{props};
 ghost use Rattle.graph.specs.Meaning.{segment_of};
 ghost use Rattle.queue.specs.Held.{cells_of};
-ghost use Rattle.queue.specs.Ordered.{Ordered};
-ghost use Rattle.queue.specs.Orders.{ready_before, running_before};
 ghost use Rattle.schedule_laws.specs.Bounds.{Bounded, Apart_prop};
 ghost use Rattle.schedule_laws.specs.Following.{Following};
 ghost use Rattle.schedule.specs.Vecs.{lists};
@@ -30,6 +28,4 @@ pub(crate) struct Layout<'s, 'c> {
     ghost counted: { vec_len waiting ≡ vec_len segment.now.tasks },
     ghost ready_room: { length (segment_of segment.now).tasks ≤ length (cells_of ready) },
     ghost running_room: { cores ≤ length (cells_of running) },
-    ghost ready_ordered: { Ordered ready_before ready } by { Prim.hlevel props },
-    ghost running_ordered: { Ordered running_before running } by { Prim.hlevel props },
 }

@@ -7,7 +7,7 @@ use queue::{Entry, Queue};
 // Puts an entry into a queue that has a free cell.
 pub(crate) fn put<E: Entry>(queue: &mut Queue<'_, E>, entry: E)
     requires { count queue.old < length (cells_of queue.old) }
-    ensures { Put E.before entry queue.old queue.new }
+    ensures { Put entry queue.old queue.new }
 {
-    let _ = queue.put(entry);
+    queue.put(entry).unwrap();
 }

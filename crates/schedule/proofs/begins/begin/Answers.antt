@@ -3,8 +3,6 @@ use Rattle.model.specs.Graph.{Task}
 use Rattle.model.specs.Places.{task}
 use Rattle.graph.specs.Meaning.{segment_of}
 use Rattle.queue.specs.Held.{held, cells_of}
-use Rattle.queue.specs.Ordered.{Ordered}
-use Rattle.queue.specs.Orders.{ready_before}
 use Rattle.schedule_laws.proofs.Beginning.{begins, begun_few, begins_later, begins_now}
 use Rattle.schedule_laws.specs.Beginning.{Beginning}
 use Rattle.schedule.proofs.Reading.{length-tasks, read_task, held_count}
@@ -14,12 +12,12 @@ use Rattle.schedule.proofs.begins.begin.Goals.{then-count-eq0, else-count-eq0, A
 pub loop-number-init : goal.loop-number-init
 loop-number-init c =
     let s = segment_of c.args.segment.now in
-    (refl, (λ o. o), subst (λ l. Beginning s 0 l (vec_items c.new-waiting.result)) (sym c.requires.empty.holds) (subst (λ l. Beginning s 0 [] l) (sym c.new-waiting.ensures.items) (begins s)))
+    (refl, subst (λ l. Beginning s 0 l (vec_items c.new-waiting.result)) (sym c.requires.empty.holds) (subst (λ l. Beginning s 0 [] l) (sym c.new-waiting.ensures.items) (begins s)))
 
 pub put-requires : goal.put-requires
 put-requires c =
     let l = c.loop-number in
-    omega (arith, begun_few (segment_of c.args.segment.now) l.number (held l.ready) (vec_items l.waiting) l.invariant.2, held_count l.ready, l.invariant.0, c.requires.room, c.loop-number-test.true, c.as_slice-task-items.ensures.len)
+    omega (arith, begun_few (segment_of c.args.segment.now) l.number (held l.ready) (vec_items l.waiting) l.invariant.1, held_count l.ready, l.invariant.0, c.requires.room, c.loop-number-test.true, c.as_slice-task-items.ensures.len)
 
 -- the task that is read
 reads : (c : goal.After-len-count) → ((task (segment_of c.args.segment.now) c.loop-number.number).worst ≡ c.task-item.result.worst) × (c.len-count.result ≡ length (task (segment_of c.args.segment.now) c.loop-number.number).predecessors)
@@ -45,17 +43,15 @@ loop-number-preserved c =
       | then-count-eq0 w ↦
           let put = w.put.ensures in (
             ap (λ q. length (cells_of q)) w.ready-is ∙ put.room ∙ l.invariant.0,
-            (λ o. subst (λ q. Ordered ready_before q) (sym w.ready-is) (put.ordered (l.invariant.1 o))),
             subst (λ q. Beginning s (i + 1) (held q) (vec_items c.push.new.self)) (sym w.ready-is)
                 (subst (λ v. Beginning s (i + 1) (held w.put.new.queue) v) pushed
-                (begins_now s i R W l.invariant.2 n (held w.put.new.queue) c.task-item.result.worst r.1 w.if-count-eq0.true (sym r.0) put.holds)),
+                (begins_now s i R W l.invariant.1 n (held w.put.new.queue) c.task-item.result.worst r.1 w.if-count-eq0.true (sym r.0) put.holds)),
           )
       | else-count-eq0 w ↦ (
         ap (λ q. length (cells_of q)) w.ready-is ∙ l.invariant.0,
-        (λ o. subst (λ q. Ordered ready_before q) (sym w.ready-is) (l.invariant.1 o)),
         subst (λ q. Beginning s (i + 1) (held q) (vec_items c.push.new.self)) (sym w.ready-is)
             (subst (λ v. Beginning s (i + 1) R v) pushed
-            (begins_later s i R W l.invariant.2 n r.1 w.if-count-eq0.false)),
+            (begins_later s i R W l.invariant.1 n r.1 w.if-count-eq0.false)),
       )
     ]
 
@@ -65,6 +61,5 @@ returns c =
     let l = c.loop-number in
     let all : l.number ≡ length (segment_of s).tasks = omega (arith, c.loop-number-test.false, l.auto.number-end, c.as_slice-task-items.ensures.len, length-tasks s) in record {
       room = l.invariant.0;
-      ordered = l.invariant.1;
-      begun = subst (λ n. Beginning (segment_of s) n (held l.ready) (vec_items l.waiting)) all l.invariant.2;
+      begun = subst (λ n. Beginning (segment_of s) n (held l.ready) (vec_items l.waiting)) all l.invariant.1;
     }

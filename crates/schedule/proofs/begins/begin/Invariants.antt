@@ -1,8 +1,6 @@
 use Rattle.std.proofs.Common.{◌≡◌, length, vec_items}
 use Rattle.graph.specs.Meaning.{segment_of}
 use Rattle.queue.specs.Held.{held, cells_of}
-use Rattle.queue.specs.Ordered.{Ordered}
-use Rattle.queue.specs.Orders.{ready_before}
 use Rattle.schedule_laws.specs.Beginning.{Beginning}
 use Rattle.schedule.proofs.begins.begin.Given as goal
 
@@ -10,5 +8,4 @@ use Rattle.schedule.proofs.begins.begin.Given as goal
 abbrev pub invariant-loop-number : goal.invariant-loop-number
 invariant-loop-number l =
     (length (cells_of l.ready) ≡ length (cells_of l.initial.ready))
-    × (Ordered ready_before l.initial.ready → Ordered ready_before l.ready)
     × Beginning (segment_of l.segment) l.number (held l.ready) (vec_items l.waiting)

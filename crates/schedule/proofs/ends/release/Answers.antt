@@ -3,8 +3,6 @@ use Rattle.std.proofs.lemmas.List.{get_or_default, get_or_read, take_all}
 use Rattle.graph.specs.Meaning.{segment_of}
 use Rattle.model.specs.Graph.{Segment, Task}
 use Rattle.queue.specs.Held.{held, count, cells_of}
-use Rattle.queue.specs.Ordered.{Ordered}
-use Rattle.queue.specs.Orders.{ready_before}
 use Rattle.queue.specs.declared.kinds.Ready.{Ready}
 use Rattle.schedule_laws.proofs.Releasing.{released_none, waits, inside, released_later, released_now}
 use Rattle.schedule_laws.specs.Counting.{times}
@@ -22,28 +20,28 @@ next s fs W V R Q i turn fit h =
 
 pub loop-follower-init : goal.loop-follower-init
 loop-follower-init c =
-    (refl, (λ o. o), omega arith, released_none (segment_of c.args.segment.now) (vec_items c.args.waiting.now) (held c.args.ready.now))
+    (refl, omega arith, released_none (segment_of c.args.segment.now) (vec_items c.args.waiting.now) (held c.args.ready.now))
 
 pub index-requires : goal.index-requires
 index-requires c =
     let l = c.loop-follower in
-    omega (arith, l.waiting.ok.0, (next (segment_of c.args.segment.now) c.args.followers.now (vec_items c.args.waiting.now) (vec_items l.waiting) (held c.args.ready.now) (held l.ready) l.follower-index c.loop-follower-test.true c.requires.waits l.invariant.3).0)
+    omega (arith, l.waiting.ok.0, (next (segment_of c.args.segment.now) c.args.followers.now (vec_items c.args.waiting.now) (vec_items l.waiting) (held c.args.ready.now) (held l.ready) l.follower-index c.loop-follower-test.true c.requires.waits l.invariant.2).0)
 
 pub index_mut-requires : goal.index_mut-requires
 index_mut-requires c =
     let l = c.loop-follower in
-    omega (arith, l.waiting.ok.0, (next (segment_of c.args.segment.now) c.args.followers.now (vec_items c.args.waiting.now) (vec_items l.waiting) (held c.args.ready.now) (held l.ready) l.follower-index c.loop-follower-test.true c.requires.waits l.invariant.3).0)
+    omega (arith, l.waiting.ok.0, (next (segment_of c.args.segment.now) c.args.followers.now (vec_items c.args.waiting.now) (vec_items l.waiting) (held c.args.ready.now) (held l.ready) l.follower-index c.loop-follower-test.true c.requires.waits l.invariant.2).0)
 
 pub overflow_sub-left : goal.overflow_sub-left
 overflow_sub-left c =
     let l = c.loop-follower in
-    let r = next (segment_of c.args.segment.now) c.args.followers.now (vec_items c.args.waiting.now) (vec_items l.waiting) (held c.args.ready.now) (held l.ready) l.follower-index c.loop-follower-test.true c.requires.waits l.invariant.3 in
+    let r = next (segment_of c.args.segment.now) c.args.followers.now (vec_items c.args.waiting.now) (vec_items l.waiting) (held c.args.ready.now) (held l.ready) l.follower-index c.loop-follower-test.true c.requires.waits l.invariant.2 in
     omega (arith, r.1, get_or_read (vec_items l.waiting) (get_or c.args.followers.now l.follower-index 0) c.index.result.now r.0 c.index.ensures 0)
 
 pub index-requires-then-is_ready : goal.index-requires-then-is_ready
 index-requires-then-is_ready c =
     let l = c.loop-follower in
-    omega (arith, l.invariant.3.counted, c.args.waiting.now.ok.0, c.requires.counted, (next (segment_of c.args.segment.now) c.args.followers.now (vec_items c.args.waiting.now) (vec_items l.waiting) (held c.args.ready.now) (held l.ready) l.follower-index c.loop-follower-test.true c.requires.waits l.invariant.3).0)
+    omega (arith, l.invariant.2.counted, c.args.waiting.now.ok.0, c.requires.counted, (next (segment_of c.args.segment.now) c.args.followers.now (vec_items c.args.waiting.now) (vec_items l.waiting) (held c.args.ready.now) (held l.ready) l.follower-index c.loop-follower-test.true c.requires.waits l.invariant.2).0)
 
 pub loop-follower-preserved : goal.loop-follower-preserved
 loop-follower-preserved c =
@@ -60,20 +58,18 @@ loop-follower-preserved c =
     elim c.if-is_ready.branch [
       | then-is_ready w ↦
           let put = w.put.ensures in
-          let r = next s fs W V R (held l.ready) i turn c.requires.waits l.invariant.3 in
-          let known = ap (λ (x : Task). x.worst) (sym (read_task c.args.segment.now t w.index-then-is_ready.result.now (omega (arith, l.invariant.3.counted, c.args.waiting.now.ok.0, c.requires.counted, r.0)) w.index-then-is_ready.ensures)) in (
+          let r = next s fs W V R (held l.ready) i turn c.requires.waits l.invariant.2 in
+          let known = ap (λ (x : Task). x.worst) (sym (read_task c.args.segment.now t w.index-then-is_ready.result.now (omega (arith, l.invariant.2.counted, c.args.waiting.now.ok.0, c.requires.counted, r.0)) w.index-then-is_ready.ensures)) in (
             ap (λ q. length (cells_of q)) w.ready-is ∙ put.room ∙ l.invariant.0,
-            (λ o. subst (λ q. Ordered ready_before q) (sym w.ready-is) (put.ordered (l.invariant.1 o))),
-            omega (arith, ap count w.ready-is, put.counts, l.invariant.2),
+            omega (arith, ap count w.ready-is, put.counts, l.invariant.1),
             subst (λ q. Released s (take (i + 1) fs) W (set V t (c.index.result.now - 1)) R (held q)) (sym w.ready-is)
-                (released_now s fs W V R (held l.ready) t i turn is c.requires.waits l.invariant.3 c.index.result.now c.index.ensures (held w.put.new.queue) w.index-then-is_ready.result.now.worst w.if-is_ready.true known put.holds),
+                (released_now s fs W V R (held l.ready) t i turn is c.requires.waits l.invariant.2 c.index.result.now c.index.ensures (held w.put.new.queue) w.index-then-is_ready.result.now.worst w.if-is_ready.true known put.holds),
           )
       | else-is_ready w ↦ (
         ap (λ q. length (cells_of q)) w.ready-is ∙ l.invariant.0,
-        (λ o. subst (λ q. Ordered ready_before q) (sym w.ready-is) (l.invariant.1 o)),
-        omega (arith, ap count w.ready-is, l.invariant.2),
+        omega (arith, ap count w.ready-is, l.invariant.1),
         subst (λ q. Released s (take (i + 1) fs) W (set V t (c.index.result.now - 1)) R (held q)) (sym w.ready-is)
-            (released_later s fs W V R (held l.ready) t i turn is c.requires.waits l.invariant.3 c.index.result.now c.index.ensures w.if-is_ready.false),
+            (released_later s fs W V R (held l.ready) t i turn is c.requires.waits l.invariant.2 c.index.result.now c.index.ensures w.if-is_ready.false),
       )
     ]
 
@@ -81,6 +77,5 @@ pub returns : goal.returns
 returns c =
     let l = c.loop-follower in record {
       room = l.invariant.0;
-      ordered = l.invariant.1;
-      released = subst (λ fs. Released (segment_of c.args.segment.now) fs (vec_items c.args.waiting.now) (vec_items l.waiting) (held c.args.ready.now) (held l.ready)) (take_all l.follower-index c.args.followers.now c.loop-follower-test.false) l.invariant.3;
+      released = subst (λ fs. Released (segment_of c.args.segment.now) fs (vec_items c.args.waiting.now) (vec_items l.waiting) (held c.args.ready.now) (held l.ready)) (take_all l.follower-index c.args.followers.now c.loop-follower-test.false) l.invariant.2;
     }

@@ -1,8 +1,6 @@
 use Rattle.std.proofs.Common.{◌≡◌, ◌+◌, ◌≤◌, length, take, vec_items}
 use Rattle.graph.specs.Meaning.{segment_of}
 use Rattle.queue.specs.Held.{held, count, cells_of}
-use Rattle.queue.specs.Ordered.{Ordered}
-use Rattle.queue.specs.Orders.{ready_before}
 use Rattle.schedule_laws.specs.Released.{Released}
 use Rattle.schedule.proofs.ends.release.Given as goal
 
@@ -10,6 +8,5 @@ use Rattle.schedule.proofs.ends.release.Given as goal
 abbrev pub invariant-loop-follower : goal.invariant-loop-follower
 invariant-loop-follower l =
     (length (cells_of l.ready) ≡ length (cells_of l.initial.ready))
-    × (Ordered ready_before l.initial.ready → Ordered ready_before l.ready)
     × (count l.ready ≤ count l.initial.ready + l.follower-index)
     × Released (segment_of l.segment) (take l.follower-index l.followers) (vec_items l.initial.waiting) (vec_items l.waiting) (held l.initial.ready) (held l.ready)

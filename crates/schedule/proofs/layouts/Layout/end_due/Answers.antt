@@ -61,7 +61,7 @@ returns-then-next-self-clause-stands c p over h =
     let e = c.in-Some.next in
     let U = held c.take.new.self in
     let r = taken_out (goal.at.returns-then-next-self-clause-stands c).In-Some p over h in
-    let first = all_shuffled (λ (x : Running). running_before x e ≡ false) (held l.running) (e ∷ U) took.holds (took.first l.running_ordered) in
+    let first = all_shuffled (λ (x : Running). running_before x e ≡ false) (held l.running) (e ∷ U) took.holds took.first in
     let left = pass_over l.cores s p l.moment r.0 (held l.ready) U (vec_items l.waiting) l.taken e r.1.passing c.if-next-self.true first in
     let on = passed_on l p r.0 (e ∷ U) r.1 (held c.put.new.queue) (running_moved l.cores s (time_passed s p) (held l.ready) (e ∷ U) (vec_items l.waiting) l.taken left (held c.put.new.queue) c.put.ensures.holds) (segment_of c.args.self.now.segment.now) (ap (λ x. segment_of x.now) c.loop-next.invariant.0.segment) in
     record { moment = on.moment; starts = on.starts; standing = on.standing }

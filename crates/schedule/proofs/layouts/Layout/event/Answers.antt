@@ -45,7 +45,7 @@ returns-in-Some-take c =
     let R = held c.take.new.self in
     let took = c.in-Some-take.ensures.cases in
     let free = free_some l.taken l.cores c.in-Some.core c.in-Some.ensures in
-    let first = all_shuffled (λ (y : Ready). ready_before y e ≡ false) (held l.ready) (e ∷ R) took.holds (took.first l.ready_ordered) in
+    let first = all_shuffled (λ (y : Ready). ready_before y e ≡ false) (held l.ready) (e ∷ R) took.holds took.first in
     unless_weaker c.start.result (λ _. Begun e c.in-Some.core _ c.start.new.self) (λ _. Moves next l c.start.new.self)
     (λ _ done. record {
       same = record { cores = done.same.cores; segment = done.same.segment };

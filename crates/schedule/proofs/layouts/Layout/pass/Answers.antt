@@ -15,7 +15,7 @@ begun : (c : goal.In-Some) (p : Progress) → Stands p c.args.self.now → Passi
 begun c p h =
     let l = c.args.self.now in
     let took = c.in-Some.ensures.cases in
-    pass_begins l.cores (segment_of l.segment.now) p (held l.ready) (vec_items l.waiting) l.taken (held l.running) (held c.take.new.self) c.in-Some.earliest h.standing took.holds (took.first l.running_ordered)
+    pass_begins l.cores (segment_of l.segment.now) p (held l.ready) (vec_items l.waiting) l.taken (held l.running) (held c.take.new.self) c.in-Some.earliest h.standing took.holds took.first
 
 pub end-requires-clause-passes : goal.end-requires-clause-passes
 end-requires-clause-passes c =
