@@ -24,7 +24,7 @@ fn begin(heap: Global, segment: &Segment, ready: &mut Queue<'_, Ready>) -> Resul
     ensures begun { UnlessMemoryLacks result (λ w. Beginning (segment_of segment.now) (length (segment_of segment.now).tasks) (held ready.new) w.items) }
 {
     let mut waiting = Vec::new(heap);
-    for (number, task) in segment.tasks.as_slice().iter().enumerate() {
+    for (number, task) in segment.tasks.iter().enumerate() {
         let count = task.predecessors.len() as u32;
         waiting.push(count)?;
         if count == 0 {

@@ -11,7 +11,8 @@ use crate::queues::put;
 use graph::Segment;
 use queue::{Queue, Ready, Running};
 
-// One predecessor of each follower has ended: those that wait for no other are ready.
+// One predecessor of each follower has ended: those that wait for no other are ready. No method, since the followers
+// are a part of the layout that is lent while other parts change.
 fn release(
     segment: &Segment,
     followers: &[u32],
@@ -28,8 +29,7 @@ fn release(
         let task = *follower;
         let left = waiting[task as usize] - 1;
         waiting[task as usize] = left;
-        let is_ready = left == 0;
-        if is_ready {
+        if left == 0 {
             let worst = segment.tasks[task as usize].worst;
             put(ready, Ready { worst, task });
         }
@@ -50,7 +50,7 @@ impl Layout<'_, '_> {
         self.taken[ended.core as usize] = false;
         release(
             self.segment,
-            self.followers[ended.task as usize].as_slice(),
+            &self.followers[ended.task as usize],
             &mut self.waiting,
             &mut self.ready,
         );

@@ -16,8 +16,8 @@ pub(crate) fn followers(heap: Global, segment: &Segment) -> Result<Vec<Vec<u32>>
     ensures { UnlessMemoryLacks result (λ v. Following (segment_of segment.now) (length (segment_of segment.now).tasks) (lists v)) }
 {
     let mut followers = no_followers(heap, segment.tasks.len())?;
-    for (number, task) in segment.tasks.as_slice().iter().enumerate() {
-        follow(&mut followers, number as u32, task.predecessors.as_slice())?;
+    for (number, task) in segment.tasks.iter().enumerate() {
+        follow(&mut followers, number as u32, &task.predecessors)?;
     }
     Ok(followers)
 }
@@ -27,9 +27,7 @@ fn no_followers(heap: Global, count: usize) -> Result<Vec<Vec<u32>>, Error>
     ensures { UnlessMemoryLacks result (λ v. lists v ≡ replicate count []) }
 {
     let mut followers = Vec::new(heap);
-    for _number in 0..count {
-        followers.push(Vec::new(heap))?;
-    }
+    followers.resize_with(count, || Vec::new(heap))?;
     Ok(followers)
 }
 

@@ -11,7 +11,9 @@ use graph::Segment;
 use queue::{Queue, Ready, Running};
 
 // A segment as it is laid out on some cores: the followers of each task; the moment, and the starts so far; how many
-// predecessors each task waits for, and which cores are taken; the ready tasks, and the running ones.
+// predecessors each task waits for, and which cores of the board are taken; the ready tasks, and the running ones.
+// `followers` and `waiting` are apart, since the end of a task walks its followers while it counts down what they wait
+// for: in one Vec of pairs it would have to copy them first.
 #[derive(Drop)]
 pub(crate) struct Layout<'s, 'c> {
     pub(crate) segment: &'s Segment,

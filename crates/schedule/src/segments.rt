@@ -13,7 +13,8 @@ use graph::{Graph, Segment};
 use queue::{Ready, Running};
 use std::alloc::Global;
 
-// The canonical schedule of each segment. Too few cells are refused, ready cells first.
+// The canonical schedule of each segment. Too few cells are refused, ready cells first. The two runs of cells stay two
+// parameters: a pair of loans would be made by each caller for this one call, and taken apart for each segment.
 pub fn schedule(
     heap: Global,
     graph: &Graph,
@@ -23,12 +24,12 @@ pub fn schedule(
     ensures answer { Answers (λ ts. map timeline_of ts.items) result (schedules (graph_of graph.now) (length ready.old) (length running.old)) }
     ensures kept { Refuses result (λ _. (ready.new ≡ ready.old) × (running.new ≡ running.old)) }
 {
-    let tasks = tasks_of_largest(graph.segments.as_slice());
+    let tasks = tasks_of_largest(&graph.segments);
     room_for(tasks, ready.len())?;
     let cores = graph.cores;
     room_for(cores as usize, running.len())?;
     let mut timelines = Vec::new(heap);
-    for segment in graph.segments.as_slice() {
+    for segment in &graph.segments {
         let timeline = timeline(heap, segment, cores, ready, running)?;
         timelines.push(timeline)?;
     }

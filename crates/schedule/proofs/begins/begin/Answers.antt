@@ -17,7 +17,7 @@ loop-number-init c =
 pub put-requires : goal.put-requires
 put-requires c =
     let l = c.loop-number in
-    omega (arith, begun_few (segment_of c.args.segment.now) l.number (held l.ready) (vec_items l.waiting) l.invariant.1, held_count l.ready, l.invariant.0, c.requires.room, c.loop-number-test.true, c.as_slice-task-items.ensures.len)
+    omega (arith, begun_few (segment_of c.args.segment.now) l.number (held l.ready) (vec_items l.waiting) l.invariant.1, held_count l.ready, l.invariant.0, c.requires.room, c.loop-number-test.true, c.deref-task-items.ensures.len)
 
 -- the task that is read
 reads : (c : goal.After-len-count) → ((task (segment_of c.args.segment.now) c.loop-number.number).worst ≡ c.task-item.result.worst) × (c.len-count.result ≡ length (task (segment_of c.args.segment.now) c.loop-number.number).predecessors)
@@ -25,8 +25,8 @@ reads c =
     let s = c.args.segment.now in
     let i = c.loop-number.number in
     let x = c.task-item.result in
-    let value = c.as_slice-task-items.ensures.value in
-    let is = read_task s i x (omega (arith, c.loop-number-test.true, c.as_slice-task-items.ensures.len)) (c.task-item.is ∙ ap (λ l. get_or l i x) value) in
+    let value = c.deref-task-items.ensures.value in
+    let is = read_task s i x (omega (arith, c.loop-number-test.true, c.deref-task-items.ensures.len)) (c.task-item.is ∙ ap (λ l. get_or l i x) value) in
     (ap (λ (t : Task). t.worst) is, c.len-count.ensures ∙ x.predecessors.ok.0 ∙ sym (ap (λ (t : Task). length t.predecessors) is))
 
 pub loop-number-preserved : goal.loop-number-preserved
@@ -59,7 +59,7 @@ pub returns : goal.returns
 returns c =
     let s = c.args.segment.now in
     let l = c.loop-number in
-    let all : l.number ≡ length (segment_of s).tasks = omega (arith, c.loop-number-test.false, l.auto.number-end, c.as_slice-task-items.ensures.len, length-tasks s) in record {
+    let all : l.number ≡ length (segment_of s).tasks = omega (arith, c.loop-number-test.false, l.auto.number-end, c.deref-task-items.ensures.len, length-tasks s) in record {
       room = l.invariant.0;
       begun = subst (λ n. Beginning (segment_of s) n (held l.ready) (vec_items l.waiting)) all l.invariant.1;
     }

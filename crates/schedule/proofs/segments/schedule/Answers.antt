@@ -25,11 +25,11 @@ timeline-requires c =
     let i = c.loop-segment.segment-index in
     let x = c.segment-item.result in
     let items = vec_items g.segments in
-    let value = c.as_slice-segment-items.ensures.value in
+    let value = c.deref-segment-items.ensures.value in
     let low : i < length items = omega (arith, c.loop-segment-test.true, ap length value) in
     let inside : i < length (map segment_of items) = omega (arith, low, length-map items segment_of) in
     let read : segment (graph_of g) i ≡ segment_of x = get_or-map segment_of items i x no_segment low ∙ ap segment_of (sym (c.segment-item.is ∙ ap (λ l. get_or l i x) value)) in
-    let most = ap (λ l. tasks_of_largest (map segment_of l)) c.as_slice.ensures.value in record {
+    let most = ap (λ l. tasks_of_largest (map segment_of l)) c.deref.ensures.value in record {
       bounded = subst (λ s. Bounded g.cores s) read (bounded (graph_of g) (well_formed_place_by_place (graph_of g) g.formed) i inside);
       ready_room = omega (arith, largest_each (map segment_of items) i inside, ap (λ s. length s.tasks) read, most, c.tasks_of_largest-tasks.ensures, (enough _ _ c.in_ok-room_for.ensures), c.loop-segment.auto.ready);
       running_room = omega (arith, (enough _ _ c.in_ok-room_for-2.ensures), c.loop-segment.auto.running);
@@ -42,7 +42,7 @@ loop-segment-preserved c =
     let x = c.segment-item.result in
     let items = vec_items g.segments in
     let front = take i items in
-    let value = c.as_slice-segment-items.ensures.value in
+    let value = c.deref-segment-items.ensures.value in
     let low : i < length items = omega (arith, c.loop-segment-test.true, ap length value) in
     let t = c.in_ok-timeline.timeline in
     let more : take (i + 1) items ≡ front ++ (x ∷ []) = take_more items i x low ∙ ap (λ y. front ++ (y ∷ [])) (sym (c.segment-item.is ∙ ap (λ l. get_or l i x) value)) in
@@ -56,8 +56,8 @@ pub returns : goal.returns
 returns c =
     let g = c.args.graph.now in
     let items = vec_items g.segments in
-    let most = ap (λ l. tasks_of_largest (map segment_of l)) c.as_slice.ensures.value in
-    let all = take_all c.loop-segment.segment-index items (omega (arith, c.loop-segment-test.false, ap length c.as_slice-segment-items.ensures.value)) in
+    let most = ap (λ l. tasks_of_largest (map segment_of l)) c.deref.ensures.value in
+    let all = take_all c.loop-segment.segment-index items (omega (arith, c.loop-segment-test.false, ap length c.deref-segment-items.ensures.value)) in
     record {
       answer =
           cond-false _ _ _ (le-ltb (length c.args.ready.now) (tasks_of_largest (map segment_of items)) (omega (arith, most, c.tasks_of_largest-tasks.ensures, (enough _ _ c.in_ok-room_for.ensures))))
