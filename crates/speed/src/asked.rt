@@ -3,7 +3,8 @@ ghost use Rattle.model.specs.Ladders.{speed};
 ghost use Rattle.model.specs.Limits.{most_levels};
 ghost use Rattle.model.specs.Making.{even_speeds};
 
-// The speeds that a ladder is asked to have.
+// The speeds that a ladder is asked to have. Each is read by its level, since the sums of even steps are true sums only
+// where the count has passed.
 pub(crate) trait Asked {
     ghost speeds: { Self → List ℕ };
 
@@ -17,20 +18,15 @@ pub(crate) trait Asked {
 }
 
 // Speeds listed one by one.
-#[derive(Clone, Copy)]
-pub(crate) struct OneByOne<'a> {
-    pub(crate) speeds: &'a [u32],
-}
-
-impl<'a> Asked for OneByOne<'a> {
-    ghost speeds = { λ x. x.speeds.now };
+impl<'a> Asked for &'a [u32] {
+    ghost speeds = { λ xs. xs.now };
 
     fn count(&self) -> usize {
-        self.speeds.len()
+        self.len()
     }
 
     fn speed(&self, level: usize) -> u64 {
-        u64::from(self.speeds[level])
+        u64::from(self[level])
     }
 }
 
@@ -45,10 +41,12 @@ pub(crate) struct InSteps {
 impl Asked for InSteps {
     ghost speeds = { λ x. even_speeds x.lowest x.step x.count };
 
+    #[tactic(auto, using(model::proofs::EvenSpeeds::even_count))]
     fn count(&self) -> usize {
         self.count
     }
 
+    #[tactic(auto, using(model::proofs::EvenSpeeds::even_at, model::proofs::EvenSpeeds::even_count))]
     fn speed(&self, level: usize) -> u64 {
         u64::from(self.lowest) + level as u64 * u64::from(self.step)
     }

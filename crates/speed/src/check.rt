@@ -1,7 +1,7 @@
-ghost use Rattle.std.specs.Prelude.{◌≡◌};
+ghost use Rattle.std.specs.Prelude.{◌≡◌, IfErr};
 ghost use Rattle.fault.specs.Card.{OnCard};
 ghost use Rattle.model.specs.Making.{making};
-ghost use Rattle.speed.specs.Made.{meant, Refuses};
+ghost use Rattle.speed.specs.Made.{meant};
 
 use crate::asked::Asked;
 use crate::ladder::Ladder;
@@ -12,24 +12,18 @@ const MOST_SPEED: u64 = 10000;
 
 // Whether a ladder of a kind can have these speeds.
 pub(crate) fn check<K: Ladder, A: Asked>(asked: &A) -> Result<(), Fault>
-    ensures answer { meant (λ _. A.Asked.speeds asked.now) result ≡ making K.most (A.Asked.speeds asked.now) }
-    ensures carries { Refuses result OnCard }
+    ensures answer { meant (λ _. A.Asked.speeds asked.now) result ≡ making K.MOST (A.Asked.speeds asked.now) }
+    ensures carries { IfErr result OnCard }
 {
     let count = asked.count();
-    if count < 1 || count > K::most_levels() {
-        return Err(Fault {
-            kind: Kind::LadderForm,
-            place: 0,
-        });
+    if count < 1 || count > K::MOST {
+        return Err(Kind::LadderForm.at(0));
     }
     let mut before = 0;
     for level in 0..count {
         let speed = asked.speed(level);
         if speed <= before || speed > MOST_SPEED {
-            return Err(Fault {
-                kind: Kind::LadderForm,
-                place: level as u64 + 1,
-            });
+            return Err(Kind::LadderForm.at(level as u64 + 1));
         }
         before = speed;
     }

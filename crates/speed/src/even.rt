@@ -3,7 +3,8 @@ ghost use Rattle.model.specs.Limits.{most_speed};
 
 use crate::asked::InSteps;
 
-// A ladder in even steps, at most 64 levels: level i has the lowest speed and i steps.
+// A ladder in even steps, at most 64 levels: level i has the lowest speed and i steps. No clause sees it as its list,
+// since a copy gives back the step, and a list of one speed has lost it.
 #[derive(Clone, Copy)]
 pub struct Even {
     pub(crate) steps: InSteps,

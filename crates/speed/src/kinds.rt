@@ -11,37 +11,29 @@ use crate::listed::Listed;
 impl Ladder for Listed {
     const MOST: usize = 16;
 
-    ghost most = { 16 };
+    ghost MOST = { 16 };
 
     ghost speeds = { listed_speeds };
 
     ghost sound = { Prim.search (rules, get_or-take, length-take) };
 
-    ghost few = { first_of (Prim.search rules, Prim.grind (arith, Self.row.coded.inj)) };
+    ghost few = { Prim.search rules };
 
-    ghost on_card = { first_of (Prim.search rules, Prim.grind (arith, Self.row.coded.inj)) };
-
-    fn most_levels() -> usize {
-        Self::MOST
-    }
+    ghost on_card = { Prim.search rules };
 
     fn count(&self) -> usize {
         self.count
     }
 
     fn speed(&self, level: usize) -> u32 {
-        if level < self.count {
-            self.table[level]
-        } else {
-            0
-        }
+        self.table[..self.count].get(level).copied().unwrap_or(0)
     }
 }
 
 impl Ladder for Even {
     const MOST: usize = 64;
 
-    ghost most = { 64 };
+    ghost MOST = { 64 };
 
     ghost speeds = { even_of };
 
@@ -49,16 +41,13 @@ impl Ladder for Even {
 
     ghost few = { λ x. let s = x.steps in omega (arith, even_count s.lowest s.step s.count) };
 
-    ghost on_card = { first_of (Prim.search rules, Prim.grind (arith, Self.row.coded.inj)) };
-
-    fn most_levels() -> usize {
-        Self::MOST
-    }
+    ghost on_card = { Prim.search rules };
 
     fn count(&self) -> usize {
         self.steps.count()
     }
 
+    #[tactic(auto, using(model::proofs::EvenSpeeds::even_count, model::proofs::EvenSpeeds::even_sound))]
     fn speed(&self, level: usize) -> u32 {
         if level < self.steps.count() {
             self.steps.speed(level) as u32

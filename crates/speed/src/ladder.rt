@@ -8,15 +8,17 @@ pub trait Ladder {
     // The most levels of the kind.
     const MOST: usize;
 
-    // The same number for the laws: no clause can name the constant.
-    ghost most: { ℕ };
+    ghost MOST: { ℕ };
 
     // What a ladder means.
     ghost speeds: { Self → List ℕ };
 
-    // The constant, tied to the number of the laws.
+    // The most levels of the kind.
     fn most_levels() -> usize
-        ensures { result ≡ most };
+        ensures { result ≡ MOST }
+    {
+        Self::MOST
+    }
 
     // How many levels there are.
     fn count(&self) -> usize
@@ -28,8 +30,8 @@ pub trait Ladder {
 
     ghost sound: { (x : Self) → Sound (speeds x) };
 
-    ghost few: { (x : Self) → length (speeds x) ≤ most };
+    ghost few: { (x : Self) → length (speeds x) ≤ MOST };
 
     // The fault card has places for so many levels.
-    ghost on_card: { most ≤ most_levels };
+    ghost on_card: { MOST ≤ most_levels };
 }

@@ -1,10 +1,10 @@
-ghost use Rattle.std.specs.Prelude.{◌≡◌, [], ◌∷◌};
+ghost use Rattle.std.specs.Prelude.{◌≡◌, [], ◌∷◌, IfErr, OnErr};
 ghost use Rattle.fault.specs.Card.{OnCard};
 ghost use Rattle.model.specs.Making.{making, even_speeds};
 ghost use Rattle.speed.specs.Kinds.{listed_speeds, even_of};
-ghost use Rattle.speed.specs.Made.{meant, Refuses};
+ghost use Rattle.speed.specs.Made.{meant};
 
-use crate::asked::{InSteps, OneByOne};
+use crate::asked::InSteps;
 use crate::check::check;
 use crate::even::Even;
 use crate::listed::Listed;
@@ -24,10 +24,10 @@ impl Listed {
     // Takes these speeds over; or refuses them, and changes nothing.
     pub fn set(&mut self, speeds: &[u32]) -> Result<(), Fault>
         ensures answer { meant (λ _. listed_speeds self.new) result ≡ making 16 speeds.now }
-        ensures kept { Refuses result (λ _. self.new ≡ self.old) }
-        ensures carries { Refuses result OnCard }
+        ensures kept { OnErr result (self.new ≡ self.old) }
+        ensures carries { IfErr result OnCard }
     {
-        check::<Listed, OneByOne>(&OneByOne { speeds })?;
+        check::<Listed, &[u32]>(&speeds)?;
         let count = speeds.len();
         let mut table = [0; 16];
         table[..count].copy_from_slice(speeds);
@@ -40,7 +40,7 @@ impl Even {
     // A ladder of so many speeds from the lowest on, a step apart; or why there is none.
     pub fn new(lowest: u32, step: u32, count: usize) -> Result<Even, Fault>
         ensures answer { meant even_of result ≡ making 64 (even_speeds lowest step count) }
-        ensures carries { Refuses result OnCard }
+        ensures carries { IfErr result OnCard }
     {
         let steps = InSteps {
             lowest,

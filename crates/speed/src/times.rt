@@ -13,6 +13,7 @@ pub fn full_speed<L: Ladder>(ladder: &L) -> u32
 
 // Work × full speed ÷ a number, rounded up once: the ticks that the work takes at a speed, or the speed that it takes
 // in a window.
+#[tactic(auto, using(model::proofs::Ceilings::rounded_up))]
 pub(crate) fn scaled<L: Ladder>(ladder: &L, work: u32, by: u64) -> u64
     requires { 1 ≤ by }
     ensures { result ≡ takes (L.speeds ladder.now) work by }

@@ -5,10 +5,7 @@ use std::test::Fail;
 const STEPS: [u32; 4] = [400, 600, 800, 1000];
 
 fn bad(place: u64) -> Fault {
-    Fault {
-        kind: Kind::LadderForm,
-        place,
-    }
+    Kind::LadderForm.at(place)
 }
 
 #[test]

@@ -1,6 +1,6 @@
-use Rattle.std.proofs.Common.{length, Ok, sym, ap, ◌∙◌, arith, length-append, length-drop}
+use Rattle.std.proofs.Common.{length, sym, ap, arith, length-append, length-drop}
 use Rattle.model.proofs.MakingLaws.{sound_speeds_make_a_ladder}
-use Rattle.speed.proofs.Table.{table_speeds, table_least, table_most, table_rises}
+use Rattle.speed.proofs.Table.{table_least, table_most, table_rises}
 use Rattle.speed.proofs.listed.Listed.set.Goals as goal
 
 pub invariant_of-self : goal.invariant_of-self
@@ -15,12 +15,4 @@ invariant_of-self c =
       least = table_least xs _ _ same passed.1;
       most = table_most xs _ _ same passed.1;
       rises = table_rises xs _ _ same passed.1;
-    }
-
-pub returns : goal.returns
-returns c =
-    let xs = c.args.speeds.now in record {
-      answer = ap Ok (table_speeds xs _ _ c.copy_from_slice.ensures.after) ∙ c.in_ok-check.ensures.answer;
-      kept = tt;
-      carries = tt;
     }
