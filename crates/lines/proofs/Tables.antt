@@ -1,10 +1,15 @@
 -- The lines of a plan, read off its timelines.
-use Rattle.std.proofs.Common.{◌≡◌, ℕ, ◌+◌, ◌^◌, ◌<◌, ◌≤◌, ◌++◌, map, length, get_or, drop, vec_items, sym, ap, ◌∙◌, subst, zero-add, arith}
-use Rattle.std.proofs.lemmas.List.FromFn.{length-range_with_len, get_or-range_with_len}
+use Rattle.std.proofs.Common.{◌≡◌, ℕ, ◌+◌, ◌^◌, ◌<◌, ◌≤◌, List, ◌++◌, map, length, get_or, drop, sum, vec_items, vec_len, sym, ap, ◌∙◌, subst, zero-add, arith}
+use mathlib.Core.List.{map-map}
+use Rattle.std.proofs.lemmas.List.FromFn.{length-range_with_len, get_or-range_with_len, get_or-map-range_with_len, length-map-range_with_len}
 use Rattle.std.proofs.lemmas.List.{get_or-map, length-map}
-use Rattle.std.specs.List.{range_with_len, flat_map}
+use Rattle.std.proofs.lemmas.List.Sums.{sum-map}
+use Rattle.std.proofs.lemmas.List.Concat.{length-flat_map}
+use Rattle.std.proofs.lemmas.Grind.{same_number_lists}
+use Rattle.model.specs.LineRecords.{line, segment_lines, lines}
+use Rattle.std.specs.List.{range_with_len, flat_map, sum_by}
 use Rattle.graph.specs.Whole.{graph_of}
-use Rattle.model.proofs.LineLaws.{length-lines_from, few_lines, start_in_time}
+use Rattle.model.proofs.LineLaws.{length-lines, length-lines_from, few_lines, start_in_time}
 use Rattle.model.proofs.PlaceLaws.{well_formed_place_by_place}
 use Rattle.model.proofs.Runs.{joined-drop}
 use Rattle.model.specs.Canonical as canon
@@ -58,3 +63,30 @@ module _ (p : Plan) where
   -- and they can be counted
   pub lines_few : length (canonical_lines (graph_of p.graph)) ≤ 256
   lines_few = few_lines (graph_of p.graph) plan_formed
+
+  -- the starts of all timelines are as many as the lines
+  pub starts_are_lines : sum_by (λ (t : Timeline). vec_len t.starts) (vec_items p.timelines) ≡ length (lines (graph_of p.graph))
+  starts_are_lines =
+      let g = graph_of p.graph in
+      let tasks = λ (t : Timeline). map (λ (x : Start). x.task) (vec_items t.starts) in
+      let placed = λ (i : ℕ). length (segment_lines g i) in
+      let ns = range_with_len 0 (count g) in
+      let orders = map (canon.order g.cores) g.segments in
+      let long = length-map orders (λ (l : List ℕ). length l) ∙ length-map g.segments (canon.order g.cores) in
+      ap (λ f. sum_by f (vec_items p.timelines)) (λ k t. (t.starts.ok.0 ∙ sym (length-map (vec_items t.starts) (λ (x : Start). x.task))) k)
+      ∙ sym (sum-map (λ t. length (tasks t)) (vec_items p.timelines))
+      ∙ ap sum (sym (map-map length tasks (vec_items p.timelines)))
+      ∙ ap (λ l. sum (map length l)) p.ordered
+      ∙ ap sum
+      (same_number_lists (map length orders) (map placed ns) (long ∙ sym (length-map-range_with_len placed 0 (count g)))
+      (λ k low.
+      let inside : k < count g = omega (arith, low, long) in
+      get_or-map length orders k [] 0 (omega (arith, inside, length-map g.segments (canon.order g.cores)))
+      ∙ ap length (get_or-map (canon.order g.cores) g.segments k no_segment [] inside)
+      ∙ sym (length-map-range_with_len (line g k) 0 (length (order_of g k)))
+      ∙ sym (get_or-map-range_with_len placed 0 (count g) k k 0 inside (zero-add k))))
+      ∙ sum-map placed ns
+      ∙ sym (length-flat_map (segment_lines g) ns)
+
+  pub few_starts : sum_by (λ (t : Timeline). vec_len t.starts) (vec_items p.timelines) < 2 ^ 64
+  few_starts = omega (arith, starts_are_lines, length-lines (graph_of p.graph), lines_few)

@@ -8,9 +8,8 @@ use plan::Plan;
 pub fn line_count(plan: &Plan) -> usize
     ensures { result ≡ length (lines (graph_of plan.now.graph)) }
 {
-    let mut count = 0;
-    for timeline in plan.timelines.as_slice() {
-        count += timeline.starts.len();
-    }
-    count
+    plan.timelines
+        .iter()
+        .map(|timeline| timeline.starts.len())
+        .sum()
 }

@@ -8,7 +8,7 @@ use crate::canonical::fill_canonical;
 use crate::count::line_count;
 use crate::record::Line;
 use crate::shift::shift_lines;
-use fault::{Fault, Kind};
+use fault::{Fault, room_for};
 use plan::Plan;
 
 // Fills the first records of `out`, segment by segment in canonical order, and answers how many; or refuses, and
@@ -17,12 +17,7 @@ pub fn fill_lines(plan: &Plan, out: &mut [Line]) -> Result<usize, Fault>
     ensures { Written (lines (graph_of plan.now.graph)) result (map line_of out.old) (map line_of out.new) }
 {
     let count = line_count(plan);
-    if out.len() < count {
-        return Err(Fault {
-            kind: Kind::TooSmall,
-            place: count as u64,
-        });
-    }
+    room_for(count, out.len())?;
     fill_canonical(out, plan);
     shift_lines(&mut out[..count], plan);
     Ok(count)

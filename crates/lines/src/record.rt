@@ -1,5 +1,5 @@
 // One task of the plan in canonical order, with its latest times in ticks.
-#[derive(Clone, Copy, PartialEq, Eq, Debug)]
+#[derive(Clone, Copy, Default, PartialEq, Eq, Debug)]
 pub struct Line {
     pub segment: usize,
     pub task: u32,

@@ -13,14 +13,7 @@ use std::alloc::{AllocError, Global};
 pub fn lines_of(heap: Global, plan: &Plan) -> Result<Vec<Line>, AllocError>
     ensures { IfOk result (λ v. map line_of v.items ≡ lines (graph_of plan.now.graph)) }
 {
-    let blank = Line {
-        segment: 0,
-        task: 0,
-        order: 0,
-        start: 0,
-        end: 0,
-    };
-    let mut run = vec![in heap; blank; line_count(plan)]?;
+    let mut run = vec![in heap; Line::default(); line_count(plan)]?;
     let _filled = fill_lines(plan, run.as_mut_slice());
     Ok(run)
 }

@@ -31,11 +31,6 @@ read c =
     let x = c.index-segment.result.now in
     get_or-map segment_of items i x no_segment (omega (arith, low c, timelines_counted p, length-map items segment_of)) ∙ ap segment_of (sym c.index-segment.ensures)
 
-pub index-segment-requires : goal.index-segment-requires
-index-segment-requires c =
-    let p = c.args.plan.now in
-    omega (arith, c.loop-number-test.true, ap length c.deref-timeline-items.ensures.value, timelines_counted p, length-map (vec_items p.graph.segments) segment_of, p.graph.segments.ok.0)
-
 pub fill_segment-place-requires : goal.fill_segment-place-requires
 fill_segment-place-requires c =
     let p = c.args.plan.now in

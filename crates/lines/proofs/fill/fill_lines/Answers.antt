@@ -1,7 +1,7 @@
-use Rattle.std.proofs.Common.{◌≡◌, ◌≤◌, ◌++◌, map, length, take, drop, sym, refl, ap, ◌∙◌, subst, arith}
+use Rattle.std.proofs.Common.{◌≡◌, ℕ, ◌≤◌, ◌++◌, Ok, map, length, take, drop, sym, ap, ◌∙◌, subst, arith}
+use Rattle.std.proofs.lemmas.Bool.Decides.{nat_tests}
 use Rattle.std.proofs.lemmas.List.{drop_at, drop-map, length-map, map-append, take_at, take-map}
-use Rattle.fault.specs.Card.{fault}
-use Rattle.fault.specs.declared.kind.Kind.TheVariants.{TooSmall}
+use Rattle.fault.specs.Room.{room}
 use Rattle.graph.specs.Whole.{graph_of}
 use Rattle.model.proofs.LineLaws.{length-lines, line_in_time, lines_are_shifted}
 use Rattle.model.proofs.Runs.{over_first}
@@ -13,13 +13,17 @@ use Rattle.lines.proofs.Tables.{plan_formed}
 use Rattle.lines.proofs.fill.fill_lines.Goals as goal
 use Rattle.lines.proofs.fill.fill_lines.Goals.{After-fill_canonical}
 
+-- there is room for as many as are needed
+roomy : (needed there : ℕ) → Ok tt ≡ room needed there → needed ≤ there
+roomy needed there e = grind (arith, nat_tests)
+
 -- what the run holds before the shift
 module _ (c : goal.After-fill_canonical) where
   counted : length (canonical_lines (graph_of c.args.plan.now.graph)) ≡ c.line_count-count.result
   counted = omega (arith, c.line_count-count.ensures, length-lines (graph_of c.args.plan.now.graph))
 
   fits : length (canonical_lines (graph_of c.args.plan.now.graph)) ≤ length (map line_of c.args.out.now)
-  fits = omega (arith, counted, c.if-out-count.false, length-map c.args.out.now line_of)
+  fits = omega (arith, counted, roomy _ _ c.in_ok-room_for.ensures, length-map c.args.out.now line_of)
 
   filled : map line_of c.fill_canonical.new.out ≡ canonical_lines (graph_of c.args.plan.now.graph) ++ drop c.line_count-count.result (map line_of c.args.out.now)
   filled =
@@ -32,15 +36,8 @@ module _ (c : goal.After-fill_canonical) where
   back : map line_of (drop c.line_count-count.result c.fill_canonical.new.out) ≡ drop c.line_count-count.result (map line_of c.args.out.now)
   back = sym (drop-map line_of c.line_count-count.result c.fill_canonical.new.out) ∙ ap (drop c.line_count-count.result) filled ∙ drop_at (canonical_lines (graph_of c.args.plan.now.graph)) _ c.line_count-count.result counted
 
-pub returns-then-out-count : goal.returns-then-out-count
-returns-then-out-count c = (
-  ap (fault TooSmall) c.line_count-count.ensures,
-  omega (arith, c.if-out-count.true, c.line_count-count.ensures, length-map c.args.out.now line_of),
-  refl,
-)
-
 pub fill_canonical-requires : goal.fill_canonical-requires
-fill_canonical-requires c = omega (arith, c.if-out-count.false, c.line_count-count.ensures, length-lines (graph_of c.args.plan.now.graph))
+fill_canonical-requires c = omega (arith, roomy _ _ c.in_ok-room_for.ensures, c.line_count-count.ensures, length-lines (graph_of c.args.plan.now.graph))
 
 pub shift_lines-requires : goal.shift_lines-requires
 shift_lines-requires c = λ l sits.

@@ -1,5 +1,5 @@
 use Rattle.std.proofs.Common.{◌≡◌, ℕ, ◌+◌, ◌^◌, ◌<◌, ◌≤◌, [], ◌∷◌, ◌++◌, map, length, get_or, take, drop, sym, ap, ◌∙◌, arith}
-use Rattle.std.proofs.lemmas.List.{drop_more, drop-set-lt, map_push, take_all, take_more, take_more_set}
+use Rattle.std.proofs.lemmas.List.{drop_more, drop-set-lt, map_push, take_more, take_more_set}
 use Rattle.graph.specs.Whole.{graph_of}
 use Rattle.model.proofs.Kept.{in_map}
 use Rattle.model.proofs.Members.{at_place}
@@ -69,10 +69,3 @@ loop-line-preserved c =
     let whole = ap (λ l. map (shifted g) (map line_of l)) (take_more xs i none (omega (arith, inside, c.loop-line.auto.records)))
     ∙ ap (map (shifted g)) (map_push line_of (take i xs) x) ∙ map_push (shifted g) (map line_of (take i xs)) (line_of x) in
     (first ∙ sym whole, drop-set-lt (i + 1) ys i (later n y) (omega arith) ∙ (same a).1)
-
-pub returns : goal.returns
-returns c =
-    let i = c.loop-line.line-index in
-    let all = take_all i c.loop-line.records (omega (arith, c.loop-line-test.false, c.loop-line.auto.records)) in
-    let before = take_all i c.args.records.now c.loop-line-test.false in
-    sym (ap (map line_of) all) ∙ c.loop-line.invariant.0 ∙ ap (λ l. map (shifted (graph_of c.args.plan.now.graph)) (map line_of l)) before
