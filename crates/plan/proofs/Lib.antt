@@ -1,4 +1,3 @@
 pub mod Laying
 pub mod Measured
-pub mod Naming
 pub mod Remaining

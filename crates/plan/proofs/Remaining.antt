@@ -1,5 +1,5 @@
 -- A segment's remaining length, from those of the segments after it.
-use Rattle.std.proofs.Common.{◌≡◌, ℕ, suc, ◌+◌, ◌-◌, ◌<◌, ◌≤◌, max, List, [], ◌∷◌, ◌++◌, get_or, drop, refl, ap, inl, inr, arith}
+use Rattle.std.proofs.Common.{◌≡◌, ℕ, suc, ◌+◌, ◌-◌, ◌<◌, ◌≤◌, List, [], ◌∷◌, get_or, drop, refl, ap, inl, inr, arith}
 use Rattle.std.proofs.lemmas.List.{get_or-drop}
 use Rattle.model.specs.Canonical.{length_of}
 use Rattle.model.specs.Graph.{Graph}
@@ -7,10 +7,6 @@ use Rattle.model.specs.Lists.{In}
 use Rattle.model.specs.Places.{segment, count, exits_of, Formed}
 use Rattle.model.specs.Times.{largest, lengths, remaining}
 use Rattle.model.proofs.LengthLaws.{remaining_is, exit_later}
-
-pub largest_push : (rest : List ℕ) (k : ℕ) (es : List ℕ) (e : ℕ) → largest rest k (es ++ (e ∷ [])) ≡ max (get_or rest (e - k) 0) (largest rest k es)
-largest_push rest k [] e = refl
-largest_push rest k (x ∷ es) e = omega (arith, largest_push rest k es e)
 
 -- where no exit is below k, the lengths from k on are all that it takes
 largest-drop : (xs : List ℕ) (k : ℕ) (es : List ℕ) → ((e : ℕ) → In e es → k ≤ e) → largest (drop k xs) k es ≡ largest xs 0 es

@@ -20,6 +20,7 @@ pub(crate) fn remaining_lengths(
 {
     let count = graph.segments.len();
     let mut remaining = vec![in heap; 0u64; count]?;
+    // By number and not over the segments: a length is written at its own place and read at those of the exits.
     for s in (0..count).rev() {
         let after = largest(remaining.as_slice(), graph.segments[s].exits.as_slice());
         remaining[s] = timelines[s].length + after;
@@ -32,9 +33,9 @@ fn largest(remaining: &[u64], exits: &[u32]) -> u64
     requires { (e : ℕ) → In e exits.now → e < length remaining.now }
     ensures { result ≡ largest remaining.now 0 exits.now }
 {
-    let mut most = 0;
-    for exit in exits {
-        most = remaining[*exit as usize].max(most);
-    }
-    most
+    exits
+        .iter()
+        .map(|exit| remaining[*exit as usize])
+        .max()
+        .unwrap_or(0)
 }

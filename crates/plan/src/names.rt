@@ -11,17 +11,8 @@ impl Plan {
     pub fn name<'a>(&'a self, segment: usize, task: usize, stand_in: &'a [u8]) -> Option<&'a [u8]>
         ensures { option_map (λ (n : Bor (List ℕ)). n.now) result ≡ shown_name (graph_of self.now.graph) segment task stand_in.now }
     {
-        let Some(segment) = self.graph.segments.get(segment) else {
-            return None;
-        };
-        let Some(task) = segment.tasks.get(task) else {
-            return None;
-        };
+        let task = self.graph.segments.get(segment)?.tasks.get(task)?;
         let name = task.name.as_slice();
-        if name.is_empty() {
-            Some(stand_in)
-        } else {
-            Some(name)
-        }
+        Some(if name.is_empty() { stand_in } else { name })
     }
 }

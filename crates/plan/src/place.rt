@@ -8,7 +8,8 @@ use graph::Graph;
 use schedule::Timeline;
 
 // A plan: a graph, the canonical schedule of each segment, and each segment's remaining length. It is accepted, whoever
-// holds it: the tables are the graph's, and the needed length is within the deadline.
+// holds it: the tables are the graph's, and the needed length is within the deadline. The remaining lengths are a run
+// beside the timelines and not in them, since each is found from those of later segments, once all timelines are there.
 #[derive(Drop)]
 pub struct Plan {
     pub graph: Graph,

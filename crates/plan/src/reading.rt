@@ -7,7 +7,7 @@ ghost use Rattle.model.specs.Limits.{most_cores, most_tasks};
 
 use crate::lengths::remaining_lengths;
 use crate::place::Plan;
-use fault::{Error, Fault, Kind};
+use fault::{Error, Kind};
 use graph::Graph;
 use queue::{Ready, Running};
 use reader::read_graph;
@@ -26,11 +26,8 @@ fn lay_out(
     let timelines = schedule(heap, &graph, ready, running)?;
     let remaining = remaining_lengths(heap, &graph, timelines.as_slice())?;
     let needed = remaining[0];
-    if needed > graph.deadline as u64 {
-        return Err(Error::Refused(Fault {
-            kind: Kind::OverDeadline,
-            place: needed,
-        }));
+    if needed > u64::from(graph.deadline) {
+        return Err(Kind::OverDeadline.at(needed).into());
     }
     Ok(Plan {
         graph,
@@ -39,7 +36,8 @@ fn lay_out(
     })
 }
 
-// The plan that the bytes describe.
+// The plan that the bytes describe. That a refusal is on the card is a clause, and not a field of `Fault`, which asks
+// nothing of who makes one.
 fn plan_of(
     heap: Global,
     bytes: &[u8],

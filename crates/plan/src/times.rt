@@ -11,9 +11,6 @@ impl Plan {
         ensures { result ≡ shift (graph_of self.now.graph) segment }
     {
         let deadline = u64::from(self.graph.deadline);
-        match self.remaining.get(segment) {
-            Some(remaining) => deadline - *remaining,
-            None => deadline,
-        }
+        deadline - self.remaining.get(segment).copied().unwrap_or(0)
     }
 }

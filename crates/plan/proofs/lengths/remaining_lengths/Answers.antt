@@ -5,7 +5,7 @@ use Rattle.model.specs.Lists.{In}
 use Rattle.model.specs.Times.{largest, lengths, remaining}
 use Rattle.model.proofs.LengthLaws.{length-lengths, exit_later, remaining_within}
 use Rattle.model.proofs.PlaceLaws.{well_formed_place_by_place}
-use Rattle.plan.proofs.Measured.{length-segments, read_exits, length-timelines, read_length}
+use Rattle.plan.proofs.Measured.{length-segments, read_exits, read_length}
 use Rattle.plan.proofs.Remaining.{remaining_from}
 use Rattle.plan.proofs.lengths.remaining_lengths.Goals as goal
 use Rattle.plan.proofs.lengths.remaining_lengths.Goals.{After-index-timelines-s}
@@ -33,12 +33,6 @@ largest-after-requires c e i =
       c.as_slice.ensures.len,
       c.loop-s.invariant.0,
     )
-
-pub bounds-timelines-s : goal.bounds-timelines-s
-bounds-timelines-s c = omega (arith, length-timelines c.args.graph.now c.args.timelines.now c.requires, c.loop-s.auto.s, c.len-count.ensures)
-
-pub bounds-timelines-s-in-loop-s : goal.bounds-timelines-s-in-loop-s
-bounds-timelines-s-in-loop-s c = bounds-timelines-s c
 
 -- the sum is the remaining length of the segment
 sum_is : (c : goal.After-index-timelines-s)

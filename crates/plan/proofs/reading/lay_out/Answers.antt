@@ -37,13 +37,14 @@ first c =
     let some : 0 < length items = omega (arith, ap length c.in_ok-remaining.ensures, length-lengths g.cores g.segments 0, (well_formed_place_by_place g c.args.graph.formed).some_segment) in
     c.index-needed.ensures ∙ get_or_default items 0 _ 0 some ∙ ap (λ l. get_or l 0 0) c.in_ok-remaining.ensures
 
-pub returns-then-needed-graph : goal.returns-then-needed-graph
-returns-then-needed-graph c =
+pub returns-then-needed-from : goal.returns-then-needed-from
+returns-then-needed-from c =
     let g = graph_of c.args.graph in
-    let is = first (goal.at.returns-then-needed-graph c).After-index-needed in
-    deadline_decides g (length c.args.ready.now) (length c.args.running.now) _ c.in_ok-timelines.ensures.answer
-    ∙ cond-true _ _ _ (lt-ltb g.deadline (needed g) (omega (arith, is, c.if-needed-graph.true)))
-    ∙ ap {B = Result Graph Fault} (λ n. Err (fault OverDeadline n)) (sym is)
+    let is = first (goal.at.returns-then-needed-from c).After-index-needed in
+    rw c.into.ensures
+    (deadline_decides g (length c.args.ready.now) (length c.args.running.now) _ c.in_ok-timelines.ensures.answer
+    ∙ cond-true _ _ _ (lt-ltb g.deadline (needed g) (omega (arith, is, c.if-needed-from.true, c.from.ensures)))
+    ∙ ap {B = Result Graph Fault} Err (ap (fault OverDeadline) (sym is) ∙ sym c.at.ensures))
 
 pub invariant_of-result : goal.invariant_of-result
 invariant_of-result c =
@@ -51,5 +52,5 @@ invariant_of-result c =
     record {
       laid = laid at.In_ok-timelines;
       remains = c.in_ok-remaining.ensures;
-      in_time = omega (arith, first at.After-index-needed, c.if-needed-graph.false);
+      in_time = omega (arith, first at.After-index-needed, c.if-needed-from.false, c.from.ensures);
     }

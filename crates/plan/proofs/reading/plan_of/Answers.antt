@@ -15,10 +15,6 @@ module _ (ready running : ℕ) (bs : List ℕ) where
   carries (Err (Refused f)) e = plan_refusals_are_on_the_card ready running bs f e
   carries (Err OutOfMemory) e = tt
 
-pub returns : goal.returns
-returns c =
-    let ready = length c.args.ready.now in
-    let running = length c.args.running.now in
-    let bs = c.args.bytes.now in
-    let answer : Answers (λ (p : Plan). graph_of p.graph) c.lay_out.result (plan_reading ready running bs) = search rules in
-    record { answer = answer; carries = carries ready running bs c.lay_out.result answer }
+pub returns-clause-carries : goal.returns-clause-carries
+returns-clause-carries c =
+    carries (length c.args.ready.now) (length c.args.running.now) c.args.bytes.now c.lay_out.result (search rules)

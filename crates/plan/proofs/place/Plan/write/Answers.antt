@@ -7,10 +7,9 @@ use Rattle.model.specs.Accepting.{then_accepting}
 use Rattle.model.specs.Limits.{most_cores, most_tasks}
 use Rattle.plan.proofs.place.Plan.write.Goals as goal
 
-pub returns : goal.returns
-returns c =
+pub returns-clause-reads_back : goal.returns-clause-reads_back
+returns-clause-reads_back c =
     let plan = c.args.self.now in
     let g = graph_of plan.graph in
     let passes = accepted_passes g (record { formed = well_formed_place_by_place g plan.graph.formed; in_time = plan.in_time }) in
-    let wrote = c.write_graph.ensures in
-    record { answer = wrote.answer; reads_back = IfOk-weaker c.write_graph.result _ _ (λ n e. ap (then_accepting most_tasks most_cores) e ∙ passes) wrote.reads_back }
+    IfOk-weaker c.write_graph.result _ _ (λ n e. ap (then_accepting most_tasks most_cores) e ∙ passes) c.write_graph.ensures.reads_back
