@@ -10,7 +10,8 @@ use fault::{Fault, Kind};
 // The highest speed.
 const MOST_SPEED: u64 = 10000;
 
-// Whether a ladder of a kind can have these speeds.
+// Whether a ladder of a kind can have these speeds. That a refusal is on the card is a clause, and not a field of
+// `Fault`, which asks nothing of who makes one.
 pub(crate) fn check<K: Ladder, A: Asked>(asked: &A) -> Result<(), Fault>
     ensures answer { meant (λ _. A.Asked.speeds asked.now) result ≡ making K.MOST (A.Asked.speeds asked.now) }
     ensures carries { IfErr result OnCard }
