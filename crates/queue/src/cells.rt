@@ -15,6 +15,7 @@ pub struct Queue<'c, E: Entry> {
     pub ghost ordered: { Heaped E.before (take len cells.now) },
 }
 
+// A ghost field cannot name the loan that a queue was made over: `same` says of each call that it stays.
 impl<'c, E: Entry> Queue<'c, E> {
     ghost use Rattle.std.specs.Prelude.{◌≡◌, MatchOption, MatchResult};
     ghost use Rattle.queue.specs.Empty.{Empty};
