@@ -1,5 +1,5 @@
 -- The lines of a plan, read off its timelines.
-use Rattle.std.proofs.Common.{◌≡◌, ℕ, ◌+◌, ◌^◌, ◌<◌, ◌≤◌, List, ◌++◌, map, length, get_or, drop, sum, vec_items, vec_len, sym, ap, ◌∙◌, subst, zero-add, arith}
+use Rattle.std.proofs.Common.{◌≡◌, ℕ, ◌+◌, ◌^◌, ◌<◌, ◌≤◌, ◌++◌, map, length, get_or, drop, sum, vec_items, vec_len, sym, ap, ◌∙◌, subst, zero-add, arith}
 use mathlib.Core.List.{map-map}
 use Rattle.std.proofs.lemmas.List.FromFn.{length-range_with_len, get_or-range_with_len, get_or-map-range_with_len, length-map-range_with_len}
 use Rattle.std.proofs.lemmas.List.{get_or-map, length-map}
@@ -17,9 +17,9 @@ use Rattle.model.specs.CanonicalLines.{lines_from, canonical_segment_lines, cano
 use Rattle.model.specs.Graph.{Graph}
 use Rattle.model.specs.Lists.{In}
 use Rattle.model.specs.Places.{no_segment, segment, count, Formed}
-use Rattle.model.specs.Times.{schedule_of}
+use Rattle.model.specs.Times.{order_of, schedule_of}
 use Rattle.plan.specs.declared.place.Plan.{Plan}
-use Rattle.schedule.specs.Meaning.{start_of, timeline_of, planned}
+use Rattle.schedule.specs.Meaning.{Plan as Laid, start_of, timeline_of, planned}
 use Rattle.schedule.specs.declared.parts.Timeline.{Timeline}
 
 -- the lines to come, from a segment on, are those of that segment and those after it
@@ -68,21 +68,24 @@ module _ (p : Plan) where
   pub starts_are_lines : sum_by (λ (t : Timeline). vec_len t.starts) (vec_items p.timelines) ≡ length (lines (graph_of p.graph))
   starts_are_lines =
       let g = graph_of p.graph in
-      let tasks = λ (t : Timeline). map (λ (x : Start). x.task) (vec_items t.starts) in
+      let ts = vec_items p.timelines in
+      let long : Laid → ℕ = λ q. length q.starts in
       let placed = λ (i : ℕ). length (segment_lines g i) in
       let ns = range_with_len 0 (count g) in
-      let orders = map (canon.order g.cores) g.segments in
-      let long = length-map orders (λ (l : List ℕ). length l) ∙ length-map g.segments (canon.order g.cores) in
-      ap (λ f. sum_by f (vec_items p.timelines)) (λ k t. (t.starts.ok.0 ∙ sym (length-map (vec_items t.starts) (λ (x : Start). x.task))) k)
-      ∙ sym (sum-map (λ t. length (tasks t)) (vec_items p.timelines))
-      ∙ ap sum (sym (map-map length tasks (vec_items p.timelines)))
-      ∙ ap (λ l. sum (map length l)) p.ordered
+      let plans = map (planned g.cores) g.segments in
+      let none = planned g.cores no_segment in
+      let many = length-map plans long ∙ length-map g.segments (planned g.cores) in
+      ap (λ f. sum_by f ts) (λ k t. (t.starts.ok.0 ∙ sym (length-map (vec_items t.starts) start_of)) k)
+      ∙ sym (sum-map (λ t. long (timeline_of t)) ts)
+      ∙ ap sum (sym (map-map long timeline_of ts))
+      ∙ ap (λ l. sum (map long l)) p.laid
       ∙ ap sum
-      (same_number_lists (map length orders) (map placed ns) (long ∙ sym (length-map-range_with_len placed 0 (count g)))
+      (same_number_lists (map long plans) (map placed ns) (many ∙ sym (length-map-range_with_len placed 0 (count g)))
       (λ k low.
-      let inside : k < count g = omega (arith, low, long) in
-      get_or-map length orders k [] 0 (omega (arith, inside, length-map g.segments (canon.order g.cores)))
-      ∙ ap length (get_or-map (canon.order g.cores) g.segments k no_segment [] inside)
+      let inside : k < count g = omega (arith, low, many) in
+      get_or-map long plans k none 0 (omega (arith, inside, length-map g.segments (planned g.cores)))
+      ∙ ap long (get_or-map (planned g.cores) g.segments k no_segment none inside)
+      ∙ sym (length-map (schedule_of g k) (λ (x : canon.Start). x.task))
       ∙ sym (length-map-range_with_len (line g k) 0 (length (order_of g k)))
       ∙ sym (get_or-map-range_with_len placed 0 (count g) k k 0 inside (zero-add k))))
       ∙ sum-map placed ns
