@@ -1,12 +1,19 @@
--- What a report says of a plan's bytes.
-use Rattle.std.specs.Prelude.{◌≡◌, true, false, ◌++◌, Ok, Err, string_bytes, codes, Result}
+-- What a report says of a plan's bytes, and the text that it prints as.
+use Rattle.std.specs.Prelude.{ℕ, List, ◌++◌, Ok, Err, codes, Result}
 use Rattle.fault.specs.Shown.{refusal}
 use Rattle.fault.specs.declared.kind.Fault.{Fault}
+use Rattle.graph.specs.Whole.{graph_of}
 use Rattle.bagplan.specs.Table.{table_text}
 use Rattle.bagplan.specs.declared.report.Report.{Report}
+use Rattle.bagplan.specs.declared.report.Report.TheVariants.{Accepted, Refused}
 use Rattle.model.specs.Graph.{Graph}
 
--- accepted just where reading has no fault: the graph's table, or the fault's one line
-abbrev pub Reports : Report → Result Graph Fault → Type 0
-Reports report (Ok g) = (report.accepted ≡ true) × (string_bytes report.text ≡ table_text g)
-Reports report (Err f) = (report.accepted ≡ false) × (string_bytes report.text ≡ refusal f ++ codes "\n")
+-- the reading that a report tells of
+abbrev pub said : Report → Result Graph Fault
+said (Accepted graph) = Ok (graph_of graph)
+said (Refused f) = Err f
+
+-- the graph's table, or the fault's one line
+abbrev pub printed : Result Graph Fault → List ℕ
+printed (Ok g) = table_text g
+printed (Err f) = refusal f ++ codes "\n"

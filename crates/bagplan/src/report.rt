@@ -1,100 +1,95 @@
-ghost use Rattle.std.specs.Prelude.{◌≡◌, map, IfOk, string_bytes};
+ghost use Rattle.std.specs.Prelude.{◌≡◌, IfOk, Some, is_ok};
 ghost use Rattle.model.specs.Reading.{reading};
-ghost use Rattle.graph.specs.Meaning.{task_of, segment_of};
 ghost use Rattle.graph.specs.Whole.{graph_of};
-ghost use Rattle.bagplan.specs.Printed.{Reports};
-ghost use Rattle.bagplan.specs.Table.{numbers_text, row_text, rows_text, segments_text, head_text, table_text};
+ghost use Rattle.bagplan.specs.Printed.{said, printed};
+ghost use Rattle.bagplan.specs.Table.{numbers_text, table_text};
 
-use fault::Error;
-use graph::{Graph, Segment, Task};
+use fault::{Error, Fault};
+use graph::Graph;
 use reader::read_graph;
 use std::alloc::{AllocError, Global};
+use std::fmt;
 
-// What is printed, and whether the plan was accepted.
+// What a plan's bytes are found to be: an accepted plan, which prints as a table, or a refusal, which prints as a line.
 #[derive(Drop)]
-pub struct Report {
-    pub text: String,
-    pub accepted: bool,
+pub enum Report {
+    Accepted(Graph),
+    Refused(Fault),
 }
 
-// The report on a plan's bytes: its graph as a table, or the one line of its refusal.
+// The report on a plan's bytes.
 pub fn report_on(heap: Global, bytes: &[u8]) -> Result<Report, AllocError>
-    ensures { IfOk result (λ t. Reports t (reading bytes.now)) }
+    ensures { IfOk result (λ r. said r ≡ reading bytes.now) }
 {
     match read_graph(heap, bytes) {
-        Ok(graph) => Ok(Report {
-            text: table(heap, &graph)?,
-            accepted: true,
-        }),
-        Err(Error::Refused(fault)) => Ok(Report {
-            text: format!(in heap; "{fault}\n")?,
-            accepted: false,
-        }),
+        Ok(graph) => Ok(Report::Accepted(graph)),
+        Err(Error::Refused(fault)) => Ok(Report::Refused(fault)),
         Err(Error::OutOfMemory) => Err(AllocError),
     }
 }
 
+impl Report {
+    pub fn is_accepted(&self) -> bool
+        ensures { result ≡ is_ok (said self.now) }
+    {
+        match self {
+            Report::Accepted(_) => true,
+            Report::Refused(_) => false,
+        }
+    }
+}
+
+impl fmt::Display for Report {
+    ghost output = { λ r. Some (printed (said r)) };
+
+    fn fmt<W: fmt::Write>(&self, f: &mut fmt::Formatter<W>) -> fmt::Result {
+        match self {
+            Report::Accepted(graph) => write!(f, "{}", Table(graph)),
+            Report::Refused(fault) => writeln!(f, "{fault}"),
+        }
+    }
+}
+
 // A line on the whole plan, a header, and a row for each task in plan order.
-fn table(heap: Global, graph: &Graph) -> Result<String, AllocError>
-    ensures { IfOk result (λ t. string_bytes t ≡ table_text (graph_of graph.now)) }
-{
-    let mut text = head(heap, graph)?;
-    text.push_str("segment task worst predecessors\n")?;
-    let all = segment_rows(heap, graph.segments.as_slice())?;
-    text.push_str(all.as_str())?;
-    Ok(text)
-}
+#[derive(Clone, Copy)]
+struct Table<'g>(&'g Graph);
 
-fn head(heap: Global, graph: &Graph) -> Result<String, AllocError>
-    ensures { IfOk result (λ t. string_bytes t ≡ head_text (graph_of graph.now)) }
-{
-    let cores = graph.cores;
-    let deadline = graph.deadline;
-    let segments = graph.segments.len();
-    format!(in heap; "cores {cores} deadline {deadline} segments {segments}\n")
-}
+impl fmt::Display for Table<'_> {
+    ghost output = { λ t. Some (table_text (graph_of t.0.now)) };
 
-fn segment_rows(heap: Global, segments: &[Segment]) -> Result<String, AllocError>
-    ensures { IfOk result (λ t. string_bytes t ≡ segments_text 0 (map segment_of segments.now)) }
-{
-    let mut text = String::new(heap);
-    for s in 0..segments.len() {
-        let rows = task_rows(heap, s, segments[s].tasks.as_slice())?;
-        text.push_str(rows.as_str())?;
+    fn fmt<W: fmt::Write>(&self, f: &mut fmt::Formatter<W>) -> fmt::Result {
+        let Table(graph) = self;
+        let cores = graph.cores;
+        let deadline = graph.deadline;
+        let segments = graph.segments.len();
+        writeln!(f, "cores {cores} deadline {deadline} segments {segments}")?;
+        writeln!(f, "segment task worst predecessors")?;
+        for (s, segment) in graph.segments.iter().enumerate() {
+            for (t, task) in segment.tasks.iter().enumerate() {
+                let worst = task.worst;
+                let predecessors = Commas(task.predecessors.as_slice());
+                writeln!(f, "{s} {t} {worst} {predecessors}")?;
+            }
+        }
+        Ok(())
     }
-    Ok(text)
-}
-
-fn task_rows(heap: Global, s: usize, tasks: &[Task]) -> Result<String, AllocError>
-    ensures { IfOk result (λ t. string_bytes t ≡ rows_text s 0 (map task_of tasks.now)) }
-{
-    let mut text = String::new(heap);
-    for t in 0..tasks.len() {
-        let line = row(heap, s, t, &tasks[t])?;
-        text.push_str(line.as_str())?;
-    }
-    Ok(text)
-}
-
-fn row(heap: Global, s: usize, t: usize, task: &Task) -> Result<String, AllocError>
-    ensures { IfOk result (λ x. string_bytes x ≡ row_text s t (task_of task.now)) }
-{
-    let worst = task.worst;
-    let predecessors = commas(heap, task.predecessors.as_slice())?;
-    format!(in heap; "{s} {t} {worst} {predecessors}\n")
 }
 
 // Numbers parted by commas, or - where there are none.
-fn commas(heap: Global, numbers: &[u32]) -> Result<String, AllocError>
-    ensures { IfOk result (λ t. string_bytes t ≡ numbers_text numbers.now) }
-{
-    let [first, more @ ..] = numbers else {
-        return String::from_str(heap, "-");
-    };
-    let mut text = first.to_string(heap)?;
-    for number in more {
-        let next = format!(in heap; ",{number}")?;
-        text.push_str(next.as_str())?;
+#[derive(Clone, Copy)]
+struct Commas<'n>(&'n [u32]);
+
+impl fmt::Display for Commas<'_> {
+    ghost output = { λ n. Some (numbers_text n.0.now) };
+
+    fn fmt<W: fmt::Write>(&self, f: &mut fmt::Formatter<W>) -> fmt::Result {
+        let [first, more @ ..] = self.0 else {
+            return f.write_str("-");
+        };
+        write!(f, "{first}")?;
+        for number in more {
+            write!(f, ",{number}")?;
+        }
+        Ok(())
     }
-    Ok(text)
 }
