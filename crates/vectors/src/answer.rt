@@ -1,5 +1,5 @@
-use crate::hex::unhex;
-use anyhow::anyhow;
+use anyhow::{Context, anyhow};
+use digits::{Letters, word_bytes};
 use fault::Error;
 use graph::Graph;
 use number::read_number;
@@ -7,37 +7,31 @@ use reader::read_graph;
 use std::alloc::Global;
 use writer::{graph_size, write_graph};
 
-// What a case answers.
+// What a case answers. A word that is missing reads as an empty one.
 pub fn answer(heap: Global, line: &str) -> anyhow::Result<String> {
-    let mut words = line.split(' ');
-    let kind = words.next().unwrap_or("");
-    if kind == "number" {
-        let at = words.next().unwrap_or("").parse::<usize>()?;
-        let bytes = read_bytes(heap, words.next().unwrap_or(""))?;
-        return answer_number(heap, bytes.as_slice(), at);
+    let words: Vec<&str> = line.split(' ').chain(["", ""]).collect(heap)?;
+    match words.as_slice() {
+        ["number", at, hex, ..] => {
+            let at = at.parse::<usize>()?;
+            let bytes = read_bytes(heap, hex)?;
+            answer_number(heap, bytes.as_slice(), at)
+        }
+        ["plan", hex, ..] => {
+            let bytes = read_bytes(heap, hex)?;
+            answer_plan(heap, bytes.as_slice())
+        }
+        _ => Err(anyhow!("neither a number nor a plan")),
     }
-    if kind == "plan" {
-        let bytes = read_bytes(heap, words.next().unwrap_or(""))?;
-        return answer_plan(heap, bytes.as_slice());
-    }
-    Err(anyhow!("neither a number nor a plan"))
 }
 
 fn read_bytes(heap: Global, text: &str) -> anyhow::Result<Vec<u8>> {
-    if text == "-" {
-        return Ok(Vec::new(heap));
-    }
-    match unhex(heap, text)? {
-        Some(bytes) => Ok(bytes),
-        None => Err(anyhow!("not hexadecimal")),
-    }
+    word_bytes(heap, Letters::Lower, text)?.context("not hexadecimal")
 }
 
 fn answer_number(heap: Global, bytes: &[u8], at: usize) -> anyhow::Result<String> {
-    if at > bytes.len() {
+    let Some(rest) = bytes.get(at..) else {
         return Err(anyhow!("a place past the bytes"));
-    }
-    let rest = &bytes[at..];
+    };
     match read_number(bytes.len(), rest) {
         Ok((value, after)) => {
             let used = rest.len().saturating_sub(after.len());
@@ -59,13 +53,8 @@ fn answer_plan(heap: Global, bytes: &[u8]) -> anyhow::Result<String> {
 fn answer_written(heap: Global, bytes: &[u8], graph: &Graph) -> anyhow::Result<String> {
     let mut run = vec![in heap; 0u8; graph_size(graph)]?;
     match write_graph(graph, run.as_mut_slice()) {
-        Ok(size) => {
-            if run.as_slice() == bytes {
-                Ok(format!(in heap; "accepted {size}")?)
-            } else {
-                Ok(String::from_str(heap, "written otherwise")?)
-            }
-        }
+        Ok(size) if run.as_slice() == bytes => Ok(format!(in heap; "accepted {size}")?),
+        Ok(_) => Ok(String::from_str(heap, "written otherwise")?),
         Err(fault) => Ok(format!(in heap; "{fault}")?),
     }
 }

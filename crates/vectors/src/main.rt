@@ -7,7 +7,6 @@
 #![tactic(auto)]
 
 mod answer;
-mod hex;
 
 use answer::answer;
 use std::io::{BufRead, BufReader};

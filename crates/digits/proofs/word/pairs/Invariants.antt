@@ -1,0 +1,11 @@
+use Rattle.std.proofs.Common.{◌≡◌, vec_items}
+use Rattle.std.specs.Slice.Iter.{chunks_rest, chunks_size}
+use Rattle.digits.specs.Hex.{bytes_of}
+use Rattle.digits.proofs.Onward.{onto}
+use Rattle.digits.proofs.word.pairs.Given as goal
+
+-- the bytes of what is left end the work
+abbrev pub invariant-loop-pair : goal.invariant-loop-pair
+invariant-loop-pair l =
+    (onto (vec_items l.bytes) (bytes_of l.letters (chunks_rest l.pair-iterator)) ≡ bytes_of l.letters l.text)
+    × (chunks_size l.pair-iterator ≡ 2)
