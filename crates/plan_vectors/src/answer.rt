@@ -11,15 +11,15 @@ const FRESH: [u8; 8] = [1, 0, 1, 1, 0, 0, 0, 0];
 
 const FRESH_SHOWN: &str = "needed 0 lengths 0 remaining 0 shifts 0 starts 0:0:0 lines 0:0:0:0:0";
 
-// What a case answers.
+// What a case answers. A word that is missing reads as an empty one.
 pub fn answer(heap: Global, line: &str) -> anyhow::Result<String> {
-    let mut words = line.split(' ');
-    if words.next().unwrap_or("") != "place" {
+    let words: Vec<&str> = line.split(' ').chain(["", "", ""]).collect(heap)?;
+    let ["place", ready, running, hex, ..] = words.as_slice() else {
         return Err(anyhow!("not a place"));
-    }
-    let ready = words.next().unwrap_or("").parse::<usize>()?;
-    let running = words.next().unwrap_or("").parse::<usize>()?;
-    let bytes = read_word(heap, words.next().unwrap_or(""))?;
+    };
+    let ready = ready.parse::<usize>()?;
+    let running = running.parse::<usize>()?;
+    let bytes = read_word(heap, hex)?;
     answer_place(heap, ready, running, bytes.as_slice())
 }
 
@@ -37,18 +37,11 @@ fn answer_place(
     };
     let mut ready = vec![in heap; waits; ready]?;
     let mut running = vec![in heap; runs; running]?;
-    let mut place = fresh(heap)?;
+    let mut place = Plan::new(heap).map_err(|_| anyhow!("no fresh place"))?;
     match place.read(heap, bytes, ready.as_mut_slice(), running.as_mut_slice()) {
         Ok(()) => answer_accepted(heap, bytes, &place),
         Err(Error::Refused(fault)) => answer_refused(heap, fault, &place),
         Err(Error::OutOfMemory) => Err(anyhow!("out of memory")),
-    }
-}
-
-fn fresh(heap: Global) -> anyhow::Result<Plan> {
-    match Plan::new(heap) {
-        Ok(place) => Ok(place),
-        Err(_) => Err(anyhow!("no fresh place")),
     }
 }
 
