@@ -1,8 +1,8 @@
 use anyhow::anyhow;
 use fault::Fault;
 use speed::{Even, Ladder, Listed, floor_for, full_speed, time_at};
-use std::alloc::{AllocError, Global};
-use std::fmt::Display;
+use std::alloc::Global;
+use std::fmt;
 
 // What a listed ladder holds before it is set.
 const BEFORE: [u32; 3] = [3, 50, 700];
@@ -13,9 +13,9 @@ pub fn answer_listed(heap: Global, words: &[&str]) -> anyhow::Result<String> {
     };
     let speeds = speeds(heap, list)?;
     let mut ladder = Listed::new();
-    if ladder.set(&BEFORE).is_err() {
-        return Err(anyhow!("no ladder to set"));
-    }
+    ladder
+        .set(&BEFORE)
+        .map_err(|_| anyhow!("no ladder to set"))?;
     match ladder.set(speeds.as_slice()) {
         Ok(()) => answer_made(heap, &ladder, question),
         Err(fault) => answer_refused(heap, fault, &ladder),
@@ -24,14 +24,12 @@ pub fn answer_listed(heap: Global, words: &[&str]) -> anyhow::Result<String> {
 
 // The speeds that a comma parts; none where the text is -.
 fn speeds(heap: Global, list: &str) -> anyhow::Result<Vec<u32>> {
-    let mut speeds = Vec::new(heap);
     if list == "-" {
-        return Ok(speeds);
+        return Ok(Vec::new(heap));
     }
-    for speed in list.split(',') {
-        speeds.push(speed.parse::<u32>()?)?;
-    }
-    Ok(speeds)
+    list.split(',')
+        .map(|speed| -> anyhow::Result<u32> { Ok(speed.parse::<u32>()?) })
+        .try_collect(heap)
 }
 
 // A refused setting has to leave the ladder as it was.
@@ -45,12 +43,11 @@ fn answer_refused(heap: Global, fault: Fault, ladder: &Listed) -> anyhow::Result
 
 // Whether the ladder has these speeds and no others.
 fn holds(ladder: &Listed, speeds: &[u32]) -> bool {
-    for (level, speed) in speeds.iter().enumerate() {
-        if ladder.speed(level) != *speed {
-            return false;
-        }
-    }
     ladder.count() == speeds.len()
+        && speeds
+            .iter()
+            .enumerate()
+            .all(|(level, speed)| ladder.speed(level) == *speed)
 }
 
 pub fn answer_even(heap: Global, words: &[&str]) -> anyhow::Result<String> {
@@ -77,17 +74,20 @@ fn answer_made<L: Ladder>(heap: Global, ladder: &L, question: &[&str]) -> anyhow
     let count = ladder.count();
     let full = full_speed(ladder);
     let speed = ladder.speed(level);
-    let time = or_none(heap, time_at(ladder, work, level))?;
-    let floor = or_none(heap, floor_for(ladder, work, window))?;
-    let text = format!(in heap;
-        "count {count} full {full} speed {speed} time {time} floor {floor}"
-    )?;
-    Ok(text)
+    let time = OrNone(time_at(ladder, work, level));
+    let floor = OrNone(floor_for(ladder, work, window));
+    Ok(format!(in heap; "count {count} full {full} speed {speed} time {time} floor {floor}")?)
 }
 
-fn or_none<T: Display + Drop>(heap: Global, number: Option<T>) -> Result<String, AllocError> {
-    match number {
-        Some(number) => number.to_string(heap),
-        None => String::from_str(heap, "none"),
+// A number, or none.
+#[derive(Clone, Copy)]
+struct OrNone<T>(Option<T>);
+
+impl<T: fmt::Display> fmt::Display for OrNone<T> {
+    fn fmt<W: fmt::Write>(&self, f: &mut fmt::Formatter<W>) -> fmt::Result {
+        match &self.0 {
+            Some(number) => f.write(number),
+            None => f.write_str("none"),
+        }
     }
 }
