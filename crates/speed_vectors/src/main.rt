@@ -20,18 +20,8 @@ mod ladders;
 mod policies;
 
 use answer::answer;
-use std::io::{BufRead, BufReader};
-
-fn run(rt: &HostRuntime) -> anyhow::Result<()> {
-    let heap = rt.alloc();
-    for line in BufReader::new(heap, rt.stdin())?.lines(heap) {
-        let line = line?;
-        let text = answer(heap, line.as_str())?;
-        println!(rt; "{text}")?;
-    }
-    Ok(())
-}
+use cases::answer_lines;
 
 fn main(rt: HostRuntime) -> anyhow::Result<()> {
-    run(&rt)
+    answer_lines(&rt, answer)
 }

@@ -1,0 +1,6 @@
+// Cases of the test programs, one to a line of standard input.
+#![tactic(auto)]
+
+mod lines;
+
+pub use lines::answer_lines;
