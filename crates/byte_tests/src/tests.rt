@@ -1,4 +1,4 @@
-use fault::{Error, Fault, Kind};
+use fault::{Error, Kind};
 use number::write_number;
 use reader::read_graph;
 use std::test::Fail;
@@ -18,10 +18,7 @@ fn a_number_fills_the_first_bytes(rt: HostRuntime) -> Result<(), Fail> {
     assert_eq!(rt; run, [0xac, 0x02, 9, 9]);
     assert_eq!(rt;
         write_number(4_294_967_295, &mut run),
-        Err(Fault {
-            kind: Kind::TooSmall,
-            place: 5,
-        })
+        Err(Kind::TooSmall.at(5))
     );
     assert_eq!(rt; run, [0xac, 0x02, 9, 9]);
     Ok(())
@@ -43,13 +40,7 @@ fn a_graph_fills_the_first_bytes(rt: HostRuntime) -> Result<(), Fail> {
 fn too_short_a_run_stays_as_it_was(rt: HostRuntime) -> Result<(), Fail> {
     let graph = read_graph(rt.alloc(), &SAMPLE)?;
     let mut run = [7; 32];
-    assert_eq!(rt;
-        write_graph(&graph, &mut run),
-        Err(Fault {
-            kind: Kind::TooSmall,
-            place: 33,
-        })
-    );
+    assert_eq!(rt; write_graph(&graph, &mut run), Err(Kind::TooSmall.at(33)));
     assert_eq!(rt; run, [7; 32]);
     Ok(())
 }
@@ -71,19 +62,13 @@ fn a_graph_shows_its_parts(rt: HostRuntime) -> Result<(), Fail> {
 #[test]
 fn a_fault_passes_whole_and_prints(rt: HostRuntime) -> Result<(), Fail> {
     let heap = rt.alloc();
-    let fault = Fault {
-        kind: Kind::BytesEnd,
-        place: 3,
-    };
+    let fault = Kind::BytesEnd.at(3);
     assert_eq!(rt;
         read_graph(heap, &SAMPLE[0..3]).err(),
         Some(Error::Refused(fault))
     );
     assert!(rt; fault.to_string(heap)?.as_str() == "refused 1 bytes 3");
-    let late = Fault {
-        kind: Kind::AfterPromise,
-        place: 7,
-    };
+    let late = Kind::AfterPromise.at(7);
     assert!(rt; late.to_string(heap)?.as_str() == "refused 14 frame 7");
     Ok(())
 }
