@@ -10,7 +10,7 @@ use std::alloc::Global;
 // What is answered where memory lacked.
 const NO_MEMORY: u32 = 255;
 
-// The number that tells of a reading.
+// The number that tells of a reading; a number stands for each refusal since the C interface hands back one.
 fn tell(reading: &Result<Plan, Error>) -> u32
     ensures { result ≡ told reading.now }
 {
