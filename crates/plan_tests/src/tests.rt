@@ -1,5 +1,5 @@
 use digits::read_word;
-use fault::{Error, Fault, Kind};
+use fault::{Error, Kind};
 use lines::{Line, fill_lines, line_count};
 use plan::Plan;
 use queue::{Ready, Running};
@@ -82,13 +82,7 @@ fn too_short_a_run_of_records_stays_as_it_was(rt: HostRuntime) -> Result<(), Fai
     let heap = rt.alloc();
     let place = holding(heap, sample(heap, 17)?.as_slice())?;
     let mut records = [line(9, 9, 9, 9, 9); 6];
-    assert_eq!(rt;
-        fill_lines(&place, &mut records),
-        Err(Fault {
-            kind: Kind::TooSmall,
-            place: 7,
-        })
-    );
+    assert_eq!(rt; fill_lines(&place, &mut records), Err(Kind::TooSmall.at(7)));
     assert_eq!(rt; records, [line(9, 9, 9, 9, 9); 6]);
     Ok(())
 }
@@ -117,10 +111,7 @@ fn the_needed_length_is_within_the_deadline(rt: HostRuntime) -> Result<(), Fail>
     let mut place = holding(heap, just.as_slice())?;
     assert_eq!(rt;
         read(heap, &mut place, sample(heap, 14)?.as_slice()),
-        Err(Error::Refused(Fault {
-            kind: Kind::OverDeadline,
-            place: 15,
-        }))
+        Err(Error::Refused(Kind::OverDeadline.at(15)))
     );
     let mut run = [7; 33];
     assert_eq!(rt; place.write(&mut run)?, 33);
