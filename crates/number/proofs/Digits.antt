@@ -1,6 +1,6 @@
 -- Writing group by group.
 use Rattle.std.proofs.Common.{◌≡◌, ℕ, zero, suc, ◌+◌, ◌-◌, ◌/◌, ◌%◌, ◌^◌, ◌<◌, ◌≤◌, List, [], ◌∷◌, ◌++◌, refl, ◌∙◌, append_assoc, arith}
-use Rattle.std.proofs.lemmas.Bool.{lt-ltb, le-ltb}
+use Rattle.std.proofs.lemmas.Bool.{le-ltb}
 use Rattle.model.specs.Numbers.{digits}
 
 -- what is left after a group fits the groups that are left
@@ -17,8 +17,3 @@ pub digits_more : (done : List ℕ) (len left : ℕ) → len < 4 → 128 ≤ lef
 digits_more done len left few high =
     let n : 4 - len ≡ suc (4 - (len + 1)) = omega arith in
     append_assoc done ((128 + left % 128) ∷ []) (digits (4 - (len + 1)) (left / 128)) ∙ rw n (rw (le-ltb left 128 high) refl)
-
--- the last group
-pub one_digit : (k left : ℕ) → left < 128 → digits k left ≡ left ∷ []
-one_digit zero left low = refl
-one_digit (suc k) left low = rw (lt-ltb left 128 low) refl

@@ -1,5 +1,5 @@
 -- Reading group by group, with a sum and a weight that stop at their caps, comes to the number that the model reads.
-use Rattle.std.proofs.Common.{◌≡◌, ℕ, ◌+◌, ◌-◌, ◌*◌, ◌%◌, ◌<◌, ◌≤◌, min, Bool, true, false, cond, not, ◌&&◌, ◌||◌, eqb, ltb, List, [], ◌∷◌, ◌++◌, length, get_or, take, drop, Some, None, Ok, Err, Option, sym, refl, ap, ◌∙◌, ⊎_elim, append_assoc, mul-le-mul_right, mul_assoc, zero-mul, arith, take_all}
+use Rattle.std.proofs.Common.{◌≡◌, ℕ, ◌+◌, ◌*◌, ◌%◌, ◌<◌, ◌≤◌, min, Bool, true, false, cond, not, ◌&&◌, ◌||◌, eqb, ltb, List, [], ◌∷◌, ◌++◌, Some, None, Ok, Err, Option, refl, ap, ◌∙◌, ⊎_elim, append_assoc, mul-le-mul_right, mul_assoc, zero-mul, arith}
 use native.Mathlib.Nat.{min-eq_left, min-eq_right}
 use Rattle.std.proofs.lemmas.Bool.{cases_lt, cases_eq, lt-ltb, le-ltb, ne_eqb}
 use Rattle.std.proofs.lemmas.Bool.Decides.{nat_tests}
@@ -117,19 +117,3 @@ module _ (count place : ℕ) where
 pub onward_number : (count : ℕ) (bs : List ℕ) → onward count (at count bs) 0 1 bs ≡ number count bs
 unfolding number
 onward_number count bs = onward_judged count (at count bs) [] bs ∙ ap (judged count (at count bs)) (onto_none (groups bs))
-
--- a list as the code takes it apart: its first element, and the rest
-pub first_and_rest : (xs : List ℕ) → 0 < length xs → xs ≡ get_or xs 0 0 ∷ take (length xs - 1) (drop 1 xs)
-first_and_rest [] h = absurd (omega arith)
-first_and_rest (x ∷ xs) h = ap {B = List ℕ} (λ l. x ∷ l) (sym (take_all (length (x ∷ xs) - 1) xs (omega arith)))
-
-module _ (count place sum weight : ℕ) where
-  pub onward_none : (bs : List ℕ) → length bs ≡ 0 → onward count place sum weight bs ≡ Err (fault BytesEnd count)
-  onward_none [] e = refl
-  onward_none (b ∷ bs) e = absurd (omega arith)
-
-  pub onward_last : (b : ℕ) (bs : List ℕ) → b < 128 → (added sum weight b ≡ 4294967296 → ⊥) → (b ≡ 0 → weight ≤ 1) → onward count place sum weight (b ∷ bs) ≡ Ok (added sum weight b, bs)
-  onward_last b bs low fits one = grind (arith, nat_tests)
-
-  pub onward_more : (b : ℕ) (bs : List ℕ) → 128 ≤ b → b < 256 → onward count place sum weight (b ∷ bs) ≡ onward count place (added sum weight b) (heavier weight) bs
-  onward_more b bs high byte = grind (arith, nat_tests)
