@@ -71,8 +71,8 @@ impl<'a> Input<'a> {
         Ok(n)
     }
 
-    // A rising list of `many` numbers, from `least` on and below `top`. A loop for every kind of list would need a type
-    // for each, to keep what a turn hands on to the next: here the lowest number, elsewhere what the plan may still have.
+    // A rising list of `many` numbers, from `least` on and below `top`. One loop for all kinds of list would be no plainer:
+    // each kind would need a closure or a type with clauses on what a turn hands on to the next.
     pub(crate) fn rising(
         &mut self,
         many: u32,

@@ -5,22 +5,9 @@ use Rattle.model.proofs.Runs.{laid_more, joined-drop}
 use Rattle.model.specs.Runs.{over}
 use Rattle.writer.proofs.run.Run.each.Goals as goal
 
-pub put-requires : goal.put-requires
-put-requires g c =
-    let f = g.T.Put.bytes in
-    let turn = joined-drop f c.args.items.now c.loop-item.item-index c.item-item.result c.loop-item-test.true c.item-item.is in
-    omega (arith, c.requires, c.loop-item.invariant.2, ap length turn, length-append (f c.item-item.result) (flat_map f (drop (c.loop-item.item-index + 1) c.args.items.now)))
-
 pub loop-item-preserved : goal.loop-item-preserved
 loop-item-preserved g c =
     let f = g.T.Put.bytes in
     let turn = joined-drop f c.args.items.now c.loop-item.item-index c.item-item.result c.loop-item-test.true c.item-item.is in
     let more = laid_more (f c.item-item.result) (flat_map f (drop (c.loop-item.item-index + 1) c.args.items.now)) (flat_map f (drop c.loop-item.item-index c.args.items.now)) c.loop-item.self.at c.loop-item.self.out.now _ _ turn c.loop-item.invariant.1 c.loop-item.invariant.2 _ _ c.put.ensures.laid in
     (c.put.ensures.same_reference ∙ c.loop-item.invariant.0, more.0, more.1)
-
-pub returns : goal.returns
-returns g c =
-    let f = g.T.Put.bytes in
-    let over_all = at_drop_all (λ l. over c.loop-item.self.at (flat_map f l) c.loop-item.self.out.now) c.args.items.now c.loop-item.item-index c.loop-item-test.false in
-    let none = at_drop_all (λ l. length (flat_map f l)) c.args.items.now c.loop-item.item-index c.loop-item-test.false in
-    record { same_reference = c.loop-item.invariant.0; laid = record { laid = sym over_all ∙ c.loop-item.invariant.1; ended = omega (arith, none, c.loop-item.invariant.2) } }
