@@ -59,12 +59,8 @@ impl Plan {
     pub fn new(heap: Global) -> Result<Plan, Error>
         ensures { Answers (λ p. graph_of p.graph) result (Ok fresh) }
     {
-        let mut ready = [Ready { worst: 0, task: 0 }];
-        let mut running = [Running {
-            end: 0,
-            core: 0,
-            task: 0,
-        }];
+        let mut ready = [Ready::default()];
+        let mut running = [Running::default()];
         plan_of(heap, &FRESH, &mut ready, &mut running)
     }
 
@@ -73,12 +69,8 @@ impl Plan {
         ensures answer { Answers (λ p. graph_of p.graph) result (plan_reading most_tasks most_cores bytes.now) }
         ensures carries { Refuses result OnCard }
     {
-        let mut ready = [Ready { worst: 0, task: 0 }; 256];
-        let mut running = [Running {
-            end: 0,
-            core: 0,
-            task: 0,
-        }; 8];
+        let mut ready = [Ready::default(); 256];
+        let mut running = [Running::default(); 8];
         plan_of(heap, bytes, &mut ready, &mut running)
     }
 

@@ -16,12 +16,8 @@ fn sample(heap: Global, deadline: u8) -> anyhow::Result<Vec<u8>> {
 
 // Reads with as many cells as the sample bag needs.
 fn read(heap: Global, place: &mut Plan, bytes: &[u8]) -> Result<(), Error> {
-    let mut ready = [Ready { worst: 0, task: 0 }; 3];
-    let mut running = [Running {
-        end: 0,
-        core: 0,
-        task: 0,
-    }; 2];
+    let mut ready = [Ready::default(); 3];
+    let mut running = [Running::default(); 2];
     place.read(heap, bytes, &mut ready, &mut running)
 }
 

@@ -29,14 +29,8 @@ fn answer_place(
     running: usize,
     bytes: &[u8],
 ) -> anyhow::Result<String> {
-    let waits = Ready { worst: 0, task: 0 };
-    let runs = Running {
-        end: 0,
-        core: 0,
-        task: 0,
-    };
-    let mut ready = vec![in heap; waits; ready]?;
-    let mut running = vec![in heap; runs; running]?;
+    let mut ready = vec![in heap; Ready::default(); ready]?;
+    let mut running = vec![in heap; Running::default(); running]?;
     let mut place = Plan::new(heap).map_err(|_| anyhow!("no fresh place"))?;
     match place.read(heap, bytes, ready.as_mut_slice(), running.as_mut_slice()) {
         Ok(()) => answer_accepted(heap, bytes, &place),
