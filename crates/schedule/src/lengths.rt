@@ -14,7 +14,7 @@ impl Layout<'_, '_> {
         requires fits { end_of (segment_of self.now.segment.now) (start_of start.now) < 2 ^ 64 }
         ensures { result ≡ end_of (segment_of self.now.segment.now) (start_of start.now) }
     {
-        start.at + self.segment.tasks[start.task as usize].worst as u64
+        start.at + u64::from(self.segment.tasks[start.task as usize].worst)
     }
 
     // When the last of the starts ends.

@@ -31,7 +31,7 @@ impl Layout<'_, '_> {
         let task = first.task;
         self.starts.push(Start { task, at, core })?;
         self.taken[core as usize] = true;
-        let end = at + first.worst as u64;
+        let end = at + u64::from(first.worst);
         put(&mut self.running, Running { end, core, task });
         Ok(())
     }

@@ -34,14 +34,15 @@ returns c =
     let U = held l.running in
     let W = vec_items l.waiting in
     let x : Start = record { task = e.task; at = l.moment; core = core } in
-    let entry : ℕ → Running = λ m. record { end = m + e.worst; core = core; task = e.task } in record {
+    let entry : ℕ → ℕ → Running = λ m w. record { end = m + w; core = core; task = e.task } in
+    let moved = subst (λ w. IsPermutation (entry l.moment w ∷ U) (held c.put.new.queue)) c.from.ensures c.put.ensures.holds in record {
       same = record { cores = refl; segment = refl };
       stands = λ p h. record {
         moment = h.moment;
         starts = ap (map start_of) c.in_ok-push.ensures.items ∙ map_push start_of (vec_items l.starts) x ∙ ap (λ v. v ++ (start_of x ∷ [])) h.starts ∙ ap {B = List canon.Start} (λ m. p.starts ++ (record { task = e.task; at = m; core = core } ∷ [])) h.moment;
-        standing = running_moved l.cores s (begin p e.task core) (held l.ready) (entry p.moment ∷ U) W (set l.taken core true)
+        standing = running_moved l.cores s (begin p e.task core) (held l.ready) (entry p.moment e.worst ∷ U) W (set l.taken core true)
             (starts l.cores s l.bounded p (held l.ready) U W l.taken e core c.requires.free.0 c.requires.free.1 h.standing)
             (held c.put.new.queue)
-            (subst (λ m. IsPermutation (entry m ∷ U) (held c.put.new.queue)) h.moment c.put.ensures.holds);
+            (subst (λ m. IsPermutation (entry m e.worst ∷ U) (held c.put.new.queue)) h.moment moved);
       };
     }
