@@ -8,6 +8,7 @@ use Rattle.model.specs.Graph.{Graph}
 use Rattle.schedule.specs.Meaning.{Plan, planned}
 
 -- the schedule of each segment, or how many cells are needed: ready ones, then running ones
+-- (`accepting` of the model makes the same two tests, and goes on to the deadline, with a graph in place of schedules)
 abbrev pub schedules : Graph → ℕ → ℕ → Result (List Plan) Fault
 schedules g ready running =
     cond (nat_lt ready (tasks_of_largest g.segments)) (Err (fault TooSmall (tasks_of_largest g.segments)))
