@@ -25,6 +25,7 @@ fn fill_segment(
     requires known { (x : ModelStart) → In x (map start_of starts.now) → (x.task < length (segment_of segment.now).tasks) × (end_of (segment_of segment.now) x < 2 ^ 64) }
     ensures { Laid (lines_from (segment_of segment.now) number 0 (map start_of starts.now)) at (map line_of out.old) result (map line_of out.new) }
 {
+    // By place: after a loop over records lent by `iter_mut` beside the starts, no proof knows what the records hold.
     for (order, start) in starts.iter().enumerate() {
         let worst = segment.tasks[start.task as usize].worst;
         out[at + order] = Line {
@@ -44,8 +45,8 @@ pub(crate) fn fill_canonical(out: &mut [Line], plan: &Plan)
     ensures { map line_of out.new ≡ over 0 (canonical_lines (graph_of plan.now.graph)) (map line_of out.old) }
 {
     let mut place = 0;
-    for (number, timeline) in plan.timelines.iter().enumerate() {
-        let segment = &plan.graph.segments[number];
+    let segments = plan.graph.segments.iter().zip(plan.timelines.iter());
+    for (number, (segment, timeline)) in segments.enumerate() {
         place = fill_segment(out, place, segment, number, timeline.starts.as_slice());
     }
 }

@@ -11,6 +11,6 @@ use Rattle.lines.proofs.canonical.fill_canonical.Given as goal
 abbrev pub invariant-loop-number : goal.invariant-loop-number
 invariant-loop-number l =
     let g = graph_of l.plan.graph in
-    let left = flat_map (canonical_segment_lines g) (drop l.number (range_with_len 0 (count g))) in
+    let left = flat_map (canonical_segment_lines g) (drop (length l.yielded) (range_with_len 0 (count g))) in
     (over l.place left (map line_of l.out) ≡ over 0 (canonical_lines g) (map line_of l.initial.out))
     × (l.place + length left ≡ length (canonical_lines g))
