@@ -72,7 +72,8 @@ impl<'a> Input<'a> {
     }
 
     // A rising list of `many` numbers, from `least` on and below `top`. One loop for all kinds of list would be no plainer:
-    // each kind would need a closure or a type with clauses on what a turn hands on to the next.
+    // each kind would need a closure or a type with clauses on what a turn hands on to the next. And `len` stands in each
+    // list's contract, since a type whose field it were would only hand it on, where the Vec is taken out of it at once.
     pub(crate) fn rising(
         &mut self,
         many: u32,
@@ -99,11 +100,10 @@ impl<'a> Input<'a> {
         ensures len { IfOk result (λ v. vec_len v ≡ size) }
     {
         let Some((front, rest)) = self.rest.split_at_checked(size as usize) else {
-            return Err(Error::Refused(Kind::BytesEnd.at(self.count as u64)));
+            return Err(Kind::BytesEnd.at(self.count as u64).into());
         };
         self.rest = rest;
-        let name = Vec::from_slice(self.heap, front)?;
-        Ok(name)
+        Ok(Vec::from_slice(self.heap, front)?)
     }
 
     // Nothing may follow the last number.

@@ -1,4 +1,5 @@
-// The call that the recorder's own program, in C, makes.
+// The call that the recorder's own program, in C, makes. It answers a number, which C can take, and says again what the
+// crate recorder says, since the kit lets no crate stand on a static library.
 #![tactic(auto)]
 
 ghost use Rattle.model.specs.Accepting.{plan_reading};

@@ -24,7 +24,7 @@ pub trait Ladder {
     fn count(&self) -> usize
         ensures { result ≡ length (speeds self.now) };
 
-    // The speed of a level, 0 beyond the last.
+    // The speed of a level, 0 beyond the last: a number and no Option, as ladders are defined.
     fn speed(&self, level: usize) -> u32
         ensures { result ≡ speed (speeds self.now) level };
 
