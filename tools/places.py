@@ -15,7 +15,7 @@ KINDS = {
     "1-flags-and-numbers": r"^\s*(pub(\(crate\))? )?enum |: bool\b|-> bool\b|-> u8\b|: u8\b.*=>|= 255;|=> [0-9]+,|== \"",
     "3-index-loops": r"\bwhile\b|\bfor \w+ in [^{]*\.\.|\+= 1;|\[\*?[a-z_]+(\.[a-z_]+)*( as usize)?( [-+*/] \w+)?\](?!\])",
     "4-by-hand": r"\bfn (eq|cmp|partial_cmp|clone|from|fmt|before|default)\b|\bas (u8|u16|u32|u64|usize)\b|\.push_str\(",
-    "6-buffers": r"\[[A-Za-z0-9]\w*; ?\w+\]|\b(len|count): usize,|Vec<Vec|\) / 2|timelines: Vec|remaining: Vec|&mut \[",
+    "6-buffers": r"\[[A-Za-z0-9]\w*; ?\w+\]|\b(len|count): usize,|Vec<Vec|\) / 2|timelines: Vec|remaining: Vec",
     "7-switches": r"\bfn\(|\bdyn\b|\bFn(Mut|Once)?\(|== \"|match words|over: Kind|words\.next",
 }
 
@@ -65,13 +65,13 @@ def repeated(commit):
         "ghost_name": "a queue stays over the same loan",
         "Bounded": "the segment is within the limits",
         "Following": "the followers are those of the segment",
-        "cells_of ready.new) ≡ length": "the queue has as many cells as before",
+        r"cells_of ready.new\) ≡ length": "the queue has as many cells as before",
         "OnCard": "a refusal is on the card",
-        "vec_len x.0 ≡": "as many are read as were asked for",
+        r"IfOk result \(λ \w\. vec_len \w(\.0)? ≡ \w+\)": "as many are read as were asked for",
     }
     for name, function, params, clauses in functions(commit):
         for word in words:
-            if any(word in c for c in clauses):
+            if any(re.search(word, c) for c in clauses):
                 facts[words[word]].add(f"{name}:{function}")
         kept = [p for p in params if p not in ("heap", "self")]
         for i, a in enumerate(kept):
