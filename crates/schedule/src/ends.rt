@@ -29,7 +29,8 @@ fn release(
         let task = *follower;
         let left = waiting[task as usize] - 1;
         waiting[task as usize] = left;
-        if left == 0 {
+        let is_ready = left == 0;
+        if is_ready {
             let worst = segment.tasks[task as usize].worst;
             put(ready, Ready { worst, task });
         }
