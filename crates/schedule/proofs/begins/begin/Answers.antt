@@ -1,18 +1,13 @@
-use Rattle.std.proofs.Common.{◌≡◌, ◌+◌, [], ◌∷◌, ◌++◌, length, get_or, vec_items, sym, refl, ap, ◌∙◌, subst, arith}
+use Rattle.std.proofs.Common.{◌≡◌, ◌+◌, [], ◌∷◌, ◌++◌, length, get_or, vec_items, sym, ap, ◌∙◌, subst, arith}
 use Rattle.model.specs.Graph.{Task}
 use Rattle.model.specs.Places.{task}
 use Rattle.graph.specs.Meaning.{segment_of}
 use Rattle.queue.specs.Held.{held, cells_of}
-use Rattle.schedule_laws.proofs.Beginning.{begins, begun_few, begins_later, begins_now}
+use Rattle.schedule_laws.proofs.Beginning.{begun_few, begins_later, begins_now}
 use Rattle.schedule_laws.specs.Beginning.{Beginning}
-use Rattle.schedule.proofs.Reading.{length-tasks, read_task, held_count}
+use Rattle.schedule.proofs.Reading.{read_task, held_count}
 use Rattle.schedule.proofs.begins.begin.Goals as goal
 use Rattle.schedule.proofs.begins.begin.Goals.{then-count-eq0, else-count-eq0, After-len-count}
-
-pub loop-number-init : goal.loop-number-init
-loop-number-init c =
-    let s = segment_of c.args.segment.now in
-    (refl, subst (λ l. Beginning s 0 l (vec_items c.new-waiting.result)) (sym c.requires.empty.holds) (subst (λ l. Beginning s 0 [] l) (sym c.new-waiting.ensures.items) (begins s)))
 
 pub put-requires : goal.put-requires
 put-requires c =
@@ -54,12 +49,3 @@ loop-number-preserved c =
             (begins_later s i R W l.invariant.1 n r.1 w.if-count-eq0.false)),
       )
     ]
-
-pub returns : goal.returns
-returns c =
-    let s = c.args.segment.now in
-    let l = c.loop-number in
-    let all : l.number ≡ length (segment_of s).tasks = omega (arith, c.loop-number-test.false, l.auto.number-end, c.deref-task-items.ensures.len, length-tasks s) in record {
-      room = l.invariant.0;
-      begun = subst (λ n. Beginning (segment_of s) n (held l.ready) (vec_items l.waiting)) all l.invariant.1;
-    }

@@ -1,10 +1,10 @@
-use Rattle.std.proofs.Common.{ℕ, ◌+◌, ◌-◌, ◌<◌, ◌≤◌, List, length, get_or, take, set, vec_items, sym, refl, ap, ◌∙◌, subst, arith}
-use Rattle.std.proofs.lemmas.List.{get_or_default, get_or_read, take_all}
+use Rattle.std.proofs.Common.{ℕ, ◌+◌, ◌-◌, ◌<◌, ◌≤◌, List, length, get_or, take, set, vec_items, sym, ap, ◌∙◌, subst, arith}
+use Rattle.std.proofs.lemmas.List.{get_or_default, get_or_read}
 use Rattle.graph.specs.Meaning.{segment_of}
 use Rattle.model.specs.Graph.{Segment, Task}
 use Rattle.queue.specs.Held.{held, count, cells_of}
 use Rattle.queue.specs.declared.kinds.Ready.{Ready}
-use Rattle.schedule_laws.proofs.Releasing.{released_none, waits, inside, released_later, released_now}
+use Rattle.schedule_laws.proofs.Releasing.{waits, inside, released_later, released_now}
 use Rattle.schedule_laws.specs.Counting.{times}
 use Rattle.schedule_laws.specs.Released.{Released}
 use Rattle.schedule.proofs.Reading.{read_task}
@@ -17,10 +17,6 @@ next s fs W V R Q i turn fit h =
     let t = get_or fs i 0 in
     let is = get_or_default fs i 0 t turn in
     (inside s fs W V R Q t i turn is fit h, waits s fs W V R Q t i turn is fit h)
-
-pub loop-follower-init : goal.loop-follower-init
-loop-follower-init c =
-    (refl, omega arith, released_none (segment_of c.args.segment.now) (vec_items c.args.waiting.now) (held c.args.ready.now))
 
 pub index-requires : goal.index-requires
 index-requires c =
@@ -72,10 +68,3 @@ loop-follower-preserved c =
             (released_later s fs W V R (held l.ready) t i turn is c.requires.waits l.invariant.2 c.index.result.now c.index.ensures w.if-is_ready.false),
       )
     ]
-
-pub returns : goal.returns
-returns c =
-    let l = c.loop-follower in record {
-      room = l.invariant.0;
-      released = subst (λ fs. Released (segment_of c.args.segment.now) fs (vec_items c.args.waiting.now) (vec_items l.waiting) (held c.args.ready.now) (held l.ready)) (take_all l.follower-index c.args.followers.now c.loop-follower-test.false) l.invariant.2;
-    }

@@ -1,7 +1,7 @@
 use Rattle.std.proofs.Common.{◌≡◌, ◌+◌, [], ◌∷◌, ◌++◌, get_or, take, set, vec_items, sym, ap, ◌∙◌, subst, arith}
-use Rattle.std.proofs.lemmas.List.{get_or_default, map-set, take_all}
+use Rattle.std.proofs.lemmas.List.{get_or_default, map-set}
 use Rattle.model.proofs.Members.{at_place}
-use Rattle.schedule_laws.proofs.Following.{followed_none, followed_more}
+use Rattle.schedule_laws.proofs.Following.{followed_more}
 use Rattle.schedule_laws.specs.Following.{Followed}
 use Rattle.schedule.specs.Vecs.{lists}
 use Rattle.schedule.proofs.Reading.{length-lists, read_list}
@@ -12,9 +12,6 @@ index_mut-requires c =
     let ps = c.args.predecessors.now in
     let i = c.loop-predecessor.predecessor-index in
     omega (arith, c.requires (get_or ps i 0) (at_place 0 ps i c.loop-predecessor-test.true), c.loop-predecessor.invariant.long, length-lists c.args.followers.now, length-lists c.loop-predecessor.followers)
-
-pub loop-predecessor-init : goal.loop-predecessor-init
-loop-predecessor-init c = followed_none c.args.number (lists c.args.followers.now)
 
 pub loop-predecessor-preserved : goal.loop-predecessor-preserved
 loop-predecessor-preserved c =
@@ -31,9 +28,3 @@ loop-predecessor-preserved c =
     subst (λ l. Followed n (take (i + 1) ps) (lists c.args.followers.now) l)
     (sym (map-set vec_items (vec_items v) p c.push.new.self ∙ ap (set (lists v) p) pushed))
     (followed_more n ps (lists c.args.followers.now) (lists v) i p c.loop-predecessor-test.true (get_or_default ps i 0 p c.loop-predecessor-test.true) (omega (arith, low, long)) c.loop-predecessor.invariant)
-
-pub returns : goal.returns
-returns c =
-    subst (λ l. Followed c.args.number l (lists c.args.followers.now) (lists c.loop-predecessor.followers))
-    (take_all c.loop-predecessor.predecessor-index c.args.predecessors.now c.loop-predecessor-test.false)
-    c.loop-predecessor.invariant

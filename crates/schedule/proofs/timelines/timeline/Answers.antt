@@ -1,9 +1,7 @@
-use Rattle.std.proofs.Common.{◌≡◌, suc, ◌+◌, ◌*◌, map, length, ap, ◌∙◌, subst, arith}
+use Rattle.std.proofs.Common.{◌≡◌, suc, ◌+◌, ap, ◌∙◌, subst, arith}
 use Rattle.graph.specs.Meaning.{segment_of}
-use Rattle.model.specs.Canonical.{after, next, canonical, last_end}
-use Rattle.schedule.specs.Meaning.{Plan, start_of}
+use Rattle.model.specs.Canonical.{after, next}
 use Rattle.schedule.specs.Stands.{Stands}
-use Rattle.schedule.proofs.Reading.{length-tasks}
 use Rattle.schedule.proofs.timelines.timeline.Goals as goal
 
 pub loop-event-preserved : goal.loop-event-preserved
@@ -22,13 +20,3 @@ loop-event-preserved c =
           (subst (λ m. Stands (next m s (after n s k)) l') was.0
           (subst (λ g. Stands (next l.cores (segment_of g) (after n s k)) l') was.1 (done.stands (after n s k) was.2))),
     )
-
-pub returns : goal.returns
-returns c =
-    let n = c.args.cores in
-    let s = segment_of c.args.segment.now in
-    let was = c.loop-event.invariant in
-    let all : c.loop-event._event ≡ 2 * length s.tasks = omega (arith, c.loop-event-test.false, c.loop-event.auto._event-end, c.len-event-end.ensures, length-tasks c.args.segment.now) in
-    let starts = was.2.starts ∙ ap (λ k. (after n s k).starts) all in
-    ap {B = Plan} (λ l. record { starts = l; length = c.last_end-length.result }) starts
-    ∙ ap {B = Plan} (λ m. record { starts = canonical n s; length = m }) (c.last_end-length.ensures ∙ ap (λ g. last_end (segment_of g) (map start_of c.loop-event.layout.starts.items)) was.1 ∙ ap (last_end s) starts)
