@@ -10,20 +10,17 @@ use reader::read_graph;
 use std::alloc::{AllocError, Global};
 use std::fmt;
 
-// What a plan's bytes are found to be: an accepted plan, which prints as a table, or a refusal, which prints as a line.
+// The reading of a plan's bytes: a graph, which prints as a table, or a refusal, which prints as a line.
 #[derive(Drop)]
-pub enum Report {
-    Accepted(Graph),
-    Refused(Fault),
-}
+pub struct Report(Result<Graph, Fault>);
 
 // The report on a plan's bytes.
 pub fn report_on(heap: Global, bytes: &[u8]) -> Result<Report, AllocError>
     ensures { IfOk result (λ r. said r ≡ reading bytes.now) }
 {
     match read_graph(heap, bytes) {
-        Ok(graph) => Ok(Report::Accepted(graph)),
-        Err(Error::Refused(fault)) => Ok(Report::Refused(fault)),
+        Ok(graph) => Ok(Report(Ok(graph))),
+        Err(Error::Refused(fault)) => Ok(Report(Err(fault))),
         Err(Error::OutOfMemory) => Err(AllocError),
     }
 }
@@ -32,10 +29,7 @@ impl Report {
     pub fn is_accepted(&self) -> bool
         ensures { result ≡ is_ok (said self.now) }
     {
-        match self {
-            Report::Accepted(_) => true,
-            Report::Refused(_) => false,
-        }
+        self.0.is_ok()
     }
 }
 
@@ -43,9 +37,9 @@ impl fmt::Display for Report {
     ghost output = { λ r. Some (printed (said r)) };
 
     fn fmt<W: fmt::Write>(&self, f: &mut fmt::Formatter<W>) -> fmt::Result {
-        match self {
-            Report::Accepted(graph) => write!(f, "{}", Table(graph)),
-            Report::Refused(fault) => writeln!(f, "{fault}"),
+        match &self.0 {
+            Ok(graph) => write!(f, "{}", Table(graph)),
+            Err(fault) => writeln!(f, "{fault}"),
         }
     }
 }
@@ -75,7 +69,7 @@ impl fmt::Display for Table<'_> {
     }
 }
 
-// Numbers parted by commas, or - where there are none.
+// Numbers parted by commas, or - where there are none. By a loop: no contract says what the library's joining writes.
 #[derive(Clone, Copy)]
 struct Commas<'n>(&'n [u32]);
 

@@ -1,4 +1,4 @@
-// Bytes from hexadecimal digits.
+// Bytes from hexadecimal digits. The kit's crate `hex` takes letters in either case, and not in one alone.
 #![tactic(auto)]
 
 mod letters;

@@ -5,17 +5,14 @@ ghost use Rattle.digits.specs.Hex.{bytes_of, word_bytes};
 
 use crate::letters::Letters;
 use crate::pair::byte_of;
-use anyhow::anyhow;
+use anyhow::Context;
 use std::alloc::{AllocError, Global};
 
 // The bytes that a word of a test stands for, or an error where it stands for none.
 pub fn read_word(heap: Global, text: &str) -> anyhow::Result<Vec<u8>>
     ensures { IfOk result (λ v. Some v.items ≡ word_bytes Either text.now) }
 {
-    match word_bytes(heap, Letters::Either, text)? {
-        Some(bytes) => Ok(bytes),
-        None => Err(anyhow!("not pairs of hexadecimal digits")),
-    }
+    word_bytes(heap, Letters::Either, text)?.context("not pairs of hexadecimal digits")
 }
 
 // Pairs of digits, or - for no bytes.

@@ -14,6 +14,6 @@ pub fn lines_of(heap: Global, plan: &Plan) -> Result<Vec<Line>, AllocError>
     ensures { IfOk result (λ v. map line_of v.items ≡ lines (graph_of plan.now.graph)) }
 {
     let mut run = vec![in heap; Line::default(); line_count(plan)]?;
-    let _filled = fill_lines(plan, run.as_mut_slice());
+    fill_lines(plan, run.as_mut_slice()).unwrap();
     Ok(run)
 }

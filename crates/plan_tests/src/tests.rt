@@ -3,6 +3,7 @@ use fault::{Error, Kind};
 use lines::{Line, fill_lines, line_count};
 use plan::Plan;
 use queue::{Ready, Running};
+use schedule::Start;
 use std::alloc::Global;
 use std::test::Fail;
 
@@ -94,8 +95,14 @@ fn the_tables_of_the_sample_bag(rt: HostRuntime) -> Result<(), Fail> {
     let first = place.timelines.first().ok_or("no segment")?;
     assert_eq!(rt; first.length, 9);
     let late = first.starts.last().ok_or("no start")?;
-    assert_eq!(rt; [late.task, late.core], [2, 0]);
-    assert_eq!(rt; late.at, 4);
+    assert_eq!(rt;
+        *late,
+        Start {
+            task: 2,
+            at: 4,
+            core: 0,
+        }
+    );
     Ok(())
 }
 

@@ -60,8 +60,6 @@ fn answer_refused(heap: Global, fault: Fault, place: &Plan) -> anyhow::Result<St
 // Whether the plan in the place is written in these bytes and no others.
 fn writes(heap: Global, place: &Plan, bytes: &[u8]) -> Result<bool, AllocError> {
     let mut run = vec![in heap; 0u8; bytes.len()]?;
-    match place.write(run.as_mut_slice()) {
-        Ok(size) => Ok(size == bytes.len() && run.as_slice() == bytes),
-        Err(_) => Ok(false),
-    }
+    let written = place.write(run.as_mut_slice());
+    Ok(written == Ok(bytes.len()) && run.as_slice() == bytes)
 }

@@ -4,6 +4,5 @@ pub mod Heap
 pub mod Held
 pub mod Orders
 pub mod Put
-pub mod Queues
 pub mod Sorted
 pub mod Taken

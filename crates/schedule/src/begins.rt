@@ -37,7 +37,8 @@ fn begin(heap: Global, segment: &Segment, ready: &mut Queue<'_, Ready>) -> Resul
 }
 
 impl<'s, 'c> Layout<'s, 'c> {
-    // The layout before the first event, over cells that are enough for the segment.
+    // The layout before the first event, over cells that are enough for the segment. Limits and room are asked for here
+    // and below, where no layout is there yet whose type would say them.
     pub(crate) fn new(
         heap: Global,
         segment: &'s Segment,

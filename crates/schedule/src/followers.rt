@@ -10,7 +10,7 @@ use fault::Error;
 use graph::Segment;
 use std::alloc::Global;
 
-// For each task, the tasks that have it as a predecessor.
+// For each task, the tasks that have it as a predecessor. The limits are asked for: no layout is there yet.
 pub(crate) fn followers(heap: Global, segment: &Segment) -> Result<Vec<Vec<u32>>, Error>
     requires { (cores : ℕ) × Bounded cores (segment_of segment.now) }
     ensures { UnlessMemoryLacks result (λ v. Following (segment_of segment.now) (length (segment_of segment.now).tasks) (lists v)) }

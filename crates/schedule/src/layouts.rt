@@ -13,7 +13,8 @@ use queue::{Queue, Ready, Running};
 // A segment as it is laid out on some cores: the followers of each task; the moment, and the starts so far; how many
 // predecessors each task waits for, and which cores of the board are taken; the ready tasks, and the running ones.
 // `followers` and `waiting` are apart, since the end of a task walks its followers while it counts down what they wait
-// for: in one Vec of pairs it would have to copy them first.
+// for: in one Vec of pairs it would have to copy them first. `taken` is the board, which has eight cores. That a layout
+// stands for a progress of the model is no field: while time passes it stands for none.
 #[derive(Drop)]
 pub(crate) struct Layout<'s, 'c> {
     pub(crate) segment: &'s Segment,

@@ -1,5 +1,5 @@
 // A start of the canonical schedule: a task, the time, and the core.
-#[derive(Clone, Copy)]
+#[derive(Clone, Copy, PartialEq, Eq, Debug)]
 pub struct Start {
     pub task: u32,
     pub at: u64,

@@ -11,7 +11,8 @@ use graph::Segment;
 use queue::{Ready, Running};
 use std::alloc::Global;
 
-// The canonical schedule of one segment, over cells that are enough for it: each task starts once and ends once.
+// The canonical schedule of one segment, over cells that are enough for it: each task starts once and ends once. Limits
+// and room are asked for, since the layout is only made here.
 pub(crate) fn timeline(
     heap: Global,
     segment: &Segment,

@@ -17,10 +17,11 @@ pub(crate) fn check<K: Ladder, A: Asked>(asked: &A) -> Result<(), Fault>
     ensures carries { IfErr result OnCard }
 {
     let count = asked.count();
-    if count < 1 || count > K::MOST {
+    if !(1..=K::MOST).contains(&count) {
         return Err(Kind::LadderForm.at(0));
     }
     let mut before = 0;
+    // By level: only where the count has passed are the sums of even steps true sums.
     for level in 0..count {
         let speed = asked.speed(level);
         if speed <= before || speed > MOST_SPEED {

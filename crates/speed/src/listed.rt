@@ -1,8 +1,9 @@
 ghost use Rattle.std.specs.Prelude.{◌≡◌, ℕ, ◌<◌, ◌≤◌, length, slice_index};
 ghost use Rattle.model.specs.Limits.{most_speed};
 
-// A ladder whose speeds are listed one by one, at most 16: the first of a table. It takes no heap, since a listed ladder
-// is copied into one that is lent; and no clause sees it as its list, since a copy gives back the whole table.
+// A ladder whose speeds are listed one by one, at most 16: the first of a table. It is copied freely and takes no heap,
+// so its table is none of the library's vectors; and no clause sees it as its list, since a copy gives back the whole
+// table.
 #[derive(Clone, Copy)]
 pub struct Listed {
     pub(crate) table: [u32; 16],

@@ -29,9 +29,7 @@ fn read_bytes(heap: Global, text: &str) -> anyhow::Result<Vec<u8>> {
 }
 
 fn answer_number(heap: Global, bytes: &[u8], at: usize) -> anyhow::Result<String> {
-    let Some(rest) = bytes.get(at..) else {
-        return Err(anyhow!("a place past the bytes"));
-    };
+    let rest = bytes.get(at..).context("a place past the bytes")?;
     match read_number(bytes.len(), rest) {
         Ok((value, after)) => {
             let used = rest.len().saturating_sub(after.len());

@@ -56,6 +56,7 @@ impl Put for u8 {
     ghost bytes = { λ b. b ∷ [] };
 
     fn put(&self, run: &mut Run<'_>) {
+        // By index: after `get_mut` no proof knows what the run holds.
         if run.at < run.out.len() {
             run.out[run.at] = *self;
         }

@@ -1,8 +1,6 @@
-use Rattle.std.proofs.Common.{◌+◌, length, drop, sym, ap, ◌∙◌, arith, length-append}
-use Rattle.std.proofs.lemmas.List.{at_drop_all}
+use Rattle.std.proofs.Common.{◌+◌, drop, ◌∙◌}
 use Rattle.std.specs.List.{flat_map}
 use Rattle.model.proofs.Runs.{laid_more, joined-drop}
-use Rattle.model.specs.Runs.{over}
 use Rattle.writer.proofs.run.Run.each.Goals as goal
 
 pub loop-item-preserved : goal.loop-item-preserved
