@@ -3,4 +3,4 @@
 
 mod lines;
 
-pub use lines::answer_lines;
+pub use lines::{Case, answer_lines};

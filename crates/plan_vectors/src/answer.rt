@@ -1,5 +1,6 @@
 use crate::shown::shown;
 use anyhow::anyhow;
+use cases::Case;
 use digits::read_word;
 use fault::{Error, Fault};
 use plan::Plan;
@@ -11,16 +12,21 @@ const FRESH: [u8; 8] = [1, 0, 1, 1, 0, 0, 0, 0];
 
 const FRESH_SHOWN: &str = "needed 0 lengths 0 remaining 0 shifts 0 starts 0:0:0 lines 0:0:0:0:0";
 
-// What a case answers. A word that is missing reads as an empty one.
-pub fn answer(heap: Global, line: &str) -> anyhow::Result<String> {
-    let words: Vec<&str> = line.split(' ').chain(["", "", ""]).collect(heap)?;
-    let ["place", ready, running, hex, ..] = words.as_slice() else {
-        return Err(anyhow!("not a place"));
-    };
-    let ready = ready.parse::<usize>()?;
-    let running = running.parse::<usize>()?;
-    let bytes = read_word(heap, hex)?;
-    answer_place(heap, ready, running, bytes.as_slice())
+// A case of the plan place.
+pub struct Place;
+
+impl Case for Place {
+    // What a case answers. A word that is missing reads as an empty one.
+    fn answer(heap: Global, line: &str) -> anyhow::Result<String> {
+        let words: Vec<&str> = line.split(' ').chain(["", "", ""]).collect(heap)?;
+        let ["place", ready, running, hex, ..] = words.as_slice() else {
+            return Err(anyhow!("not a place"));
+        };
+        let ready = ready.parse::<usize>()?;
+        let running = running.parse::<usize>()?;
+        let bytes = read_word(heap, hex)?;
+        answer_place(heap, ready, running, bytes.as_slice())
+    }
 }
 
 fn answer_place(

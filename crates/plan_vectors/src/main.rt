@@ -12,9 +12,9 @@
 mod answer;
 mod shown;
 
-use answer::answer;
+use answer::Place;
 use cases::answer_lines;
 
 fn main(rt: HostRuntime) -> anyhow::Result<()> {
-    answer_lines(&rt, answer)
+    answer_lines::<Place>(&rt)
 }

@@ -19,9 +19,9 @@ mod answer;
 mod ladders;
 mod policies;
 
-use answer::answer;
+use answer::Speed;
 use cases::answer_lines;
 
 fn main(rt: HostRuntime) -> anyhow::Result<()> {
-    answer_lines(&rt, answer)
+    answer_lines::<Speed>(&rt)
 }

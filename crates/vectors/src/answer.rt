@@ -1,4 +1,5 @@
 use anyhow::{Context, anyhow};
+use cases::Case;
 use digits::{Letters, word_bytes};
 use fault::Error;
 use graph::Graph;
@@ -7,20 +8,25 @@ use reader::read_graph;
 use std::alloc::Global;
 use writer::{graph_size, write_graph};
 
-// What a case answers. A word that is missing reads as an empty one.
-pub fn answer(heap: Global, line: &str) -> anyhow::Result<String> {
-    let words: Vec<&str> = line.split(' ').chain(["", ""]).collect(heap)?;
-    match words.as_slice() {
-        ["number", at, hex, ..] => {
-            let at = at.parse::<usize>()?;
-            let bytes = read_bytes(heap, hex)?;
-            answer_number(heap, bytes.as_slice(), at)
+// A case of the byte layer.
+pub struct Bytes;
+
+impl Case for Bytes {
+    // What a case answers. A word that is missing reads as an empty one.
+    fn answer(heap: Global, line: &str) -> anyhow::Result<String> {
+        let words: Vec<&str> = line.split(' ').chain(["", ""]).collect(heap)?;
+        match words.as_slice() {
+            ["number", at, hex, ..] => {
+                let at = at.parse::<usize>()?;
+                let bytes = read_bytes(heap, hex)?;
+                answer_number(heap, bytes.as_slice(), at)
+            }
+            ["plan", hex, ..] => {
+                let bytes = read_bytes(heap, hex)?;
+                answer_plan(heap, bytes.as_slice())
+            }
+            _ => Err(anyhow!("neither a number nor a plan")),
         }
-        ["plan", hex, ..] => {
-            let bytes = read_bytes(heap, hex)?;
-            answer_plan(heap, bytes.as_slice())
-        }
-        _ => Err(anyhow!("neither a number nor a plan")),
     }
 }
 

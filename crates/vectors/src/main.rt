@@ -8,9 +8,9 @@
 
 mod answer;
 
-use answer::answer;
+use answer::Bytes;
 use cases::answer_lines;
 
 fn main(rt: HostRuntime) -> anyhow::Result<()> {
-    answer_lines(&rt, answer)
+    answer_lines::<Bytes>(&rt)
 }
