@@ -16,15 +16,20 @@ const FRESH_SHOWN: &str = "needed 0 lengths 0 remaining 0 shifts 0 starts 0:0:0 
 pub struct Place;
 
 impl Case for Place {
-    // What a case answers. A word that is missing reads as an empty one.
+    // What a case answers. A word that is missing reads as an empty one; those after the last are not looked at.
     fn answer(heap: Global, line: &str) -> anyhow::Result<String> {
-        let words: Vec<&str> = line.split(' ').chain(["", "", ""]).collect(heap)?;
-        let ["place", ready, running, hex, ..] = words.as_slice() else {
+        let mut words = line.split(' ');
+        let [Some("place"), ready, running, hex] = [
+            words.next(),
+            words.next(),
+            words.next(),
+            words.next(),
+        ] else {
             return Err(anyhow!("not a place"));
         };
-        let ready = ready.parse::<usize>()?;
-        let running = running.parse::<usize>()?;
-        let bytes = read_word(heap, hex)?;
+        let ready = ready.unwrap_or("").parse::<usize>()?;
+        let running = running.unwrap_or("").parse::<usize>()?;
+        let bytes = read_word(heap, hex.unwrap_or(""))?;
         answer_place(heap, ready, running, bytes.as_slice())
     }
 }

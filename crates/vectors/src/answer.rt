@@ -12,17 +12,17 @@ use writer::{graph_size, write_graph};
 pub struct Bytes;
 
 impl Case for Bytes {
-    // What a case answers. A word that is missing reads as an empty one.
+    // What a case answers. A word that is missing reads as an empty one; those after the last are not looked at.
     fn answer(heap: Global, line: &str) -> anyhow::Result<String> {
-        let words: Vec<&str> = line.split(' ').chain(["", ""]).collect(heap)?;
-        match words.as_slice() {
-            ["number", at, hex, ..] => {
-                let at = at.parse::<usize>()?;
-                let bytes = read_bytes(heap, hex)?;
+        let mut words = line.split(' ');
+        match [words.next(), words.next(), words.next()] {
+            [Some("number"), at, hex] => {
+                let at = at.unwrap_or("").parse::<usize>()?;
+                let bytes = read_bytes(heap, hex.unwrap_or(""))?;
                 answer_number(heap, bytes.as_slice(), at)
             }
-            ["plan", hex, ..] => {
-                let bytes = read_bytes(heap, hex)?;
+            [Some("plan"), hex, _] => {
+                let bytes = read_bytes(heap, hex.unwrap_or(""))?;
                 answer_plan(heap, bytes.as_slice())
             }
             _ => Err(anyhow!("neither a number nor a plan")),
