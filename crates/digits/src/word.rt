@@ -36,14 +36,15 @@ fn pairs(heap: Global, letters: Letters, text: &str) -> Result<Option<Vec<u8>>, 
     ensures { IfOk result (λ o. option_map vec_items o ≡ bytes_of letters text.now) }
 {
     let mut bytes = Vec::new(heap);
-    for pair in text.as_bytes().chunks(2) {
-        let [high, low] = pair else {
-            return Ok(None);
-        };
-        let Some(byte) = byte_of(letters, *high, *low) else {
+    for pair in text.as_bytes().chunks_exact(2) {
+        let Some(byte) = byte_of(letters, pair[0], pair[1]) else {
             return Ok(None);
         };
         bytes.push(byte)?;
     }
-    Ok(Some(bytes))
+    if text.len() % 2 == 0 {
+        Ok(Some(bytes))
+    } else {
+        Ok(None)
+    }
 }

@@ -1,4 +1,5 @@
-use Rattle.std.proofs.Common.{vec_items, ap, sym, ◌∙◌, rules}
+use Rattle.std.proofs.Common.{length, vec_items, ap, sym, ◌∙◌, rules, arith, length-append}
+use Rattle.std.specs.Slice.Iter.{chunks_exact_rest}
 use Rattle.digits.specs.Hex.{bytes_of}
 use Rattle.digits.proofs.Onward.{onto, pair_more}
 use Rattle.digits.proofs.word.pairs.Goals as goal
@@ -11,4 +12,5 @@ loop-pair-preserved c =
           ∙ ap (λ l. onto (vec_items c.loop-pair.bytes) (bytes_of c.args.letters l)) (sym steps.1.0)
           ∙ c.loop-pair.invariant.0),
       steps.0 ∙ c.loop-pair.invariant.1,
+      omega (arith, length-append c.in-Some.pair.now (chunks_exact_rest c.next.new.self), ap length steps.1.0, steps.1.1, c.loop-pair.invariant),
     )

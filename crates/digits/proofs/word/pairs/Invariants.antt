@@ -1,5 +1,5 @@
-use Rattle.std.proofs.Common.{◌≡◌, vec_items}
-use Rattle.std.specs.Slice.Iter.{chunks_rest, chunks_size}
+use Rattle.std.proofs.Common.{◌≡◌, ◌%◌, length, vec_items}
+use Rattle.std.specs.Slice.Iter.{chunks_exact_rest, chunks_exact_size}
 use Rattle.digits.specs.Hex.{bytes_of}
 use Rattle.digits.proofs.Onward.{onto}
 use Rattle.digits.proofs.word.pairs.Given as goal
@@ -7,5 +7,6 @@ use Rattle.digits.proofs.word.pairs.Given as goal
 -- the bytes of what is left end the work
 abbrev pub invariant-loop-pair : goal.invariant-loop-pair
 invariant-loop-pair l =
-    (onto (vec_items l.bytes) (bytes_of l.letters (chunks_rest l.pair-iterator)) ≡ bytes_of l.letters l.text)
-    × (chunks_size l.pair-iterator ≡ 2)
+    (onto (vec_items l.bytes) (bytes_of l.letters (chunks_exact_rest l.pair-iterator)) ≡ bytes_of l.letters l.text)
+    × (chunks_exact_size l.pair-iterator ≡ 2)
+    × (length (chunks_exact_rest l.pair-iterator) % 2 ≡ length l.text % 2)
