@@ -1,4 +1,4 @@
-use Rattle.std.proofs.Common.{◌≡◌, ◌^◌, ◌<◌, vec_items, vec_len, ◌∙◌, rules}
+use Rattle.std.proofs.Common.{◌≡◌, ◌^◌, ◌<◌, vec_items, vec_len, arith, rules}
 use Rattle.std.specs.List.{sum_by}
 use Rattle.schedule.specs.declared.parts.Timeline.{Timeline}
 use Rattle.lines.proofs.Tables.{starts_are_lines, few_starts}
@@ -14,4 +14,4 @@ pub returns : goal.returns
 returns c =
     let ts = vec_items c.args.plan.now.timelines in
     let all : c.sum.result ≡ sum_by (λ (t : Timeline). vec_len t.starts) ts = search rules in
-    all ∙ starts_are_lines c.args.plan.now
+    omega (arith, all, starts_are_lines c.args.plan.now)
